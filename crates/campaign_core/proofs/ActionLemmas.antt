@@ -4,7 +4,7 @@ use Rattle.campaign_core.proofs.Common.{◌≡◌, ℕ, Bool, true, false, cond,
 use Rattle.campaign_core.proofs.Common.{Err, Result, is_none, is_some, map, nat_eq, option_or, unwrap_or, eq-eqb, cancel_standing_said}
 use Rattle.campaign_core.proofs.Common.{outcome_given, item_numbered, Bytes, Cancel, Command, action_after, change_rollout, is_same_action}
 use Rattle.campaign_core.proofs.Common.{outcome_if_new, own_group, rollout_after, rollouts_after_outcome, act_on, step_action, Records, Reported, is_again}
-use Rattle.campaign_core.proofs.Common.{reported_by, ActionRecord, RolloutRecord, group_number_of, is_for, check, on_action}
+use Rattle.campaign_core.proofs.Common.{reported_by, ActionRecord, RolloutRecord, group_number_of, is_for, check, is_some_and}
 use Rattle.campaign_core.proofs.Common.{target_of, Outcome, Refusal, ClosedAction, OwnDecides, own_view_of}
 use Rattle.campaign_core.proofs.Common.{AreSound, BothOrNone, ChangesAction, DecidesAs, IsActionView, IsCancelView, JudgesCancel, action_for, action_with}
 use Rattle.campaign_core.proofs.Common.{cancel_refusal, change_by, change_numbered, ended_by, outcome_forced, rollout_with, rollouts_with}
@@ -136,7 +136,7 @@ pub cancels : (v : CancelView) (t : Bytes) (k : ℕ) (force : Bool) (result : Re
     → DecidesAs change.Cancel (seen.Cancel (Some v)) (Cancel t k force) result
 cancels v t k force (Ok c) e rs sound is =
     let it : IsFound (λ w a. IsCancelView w a rs) v (action_for rs t k) = found (λ w a. IsCancelView w a rs) (Some v) v (action_for rs t k) refl is in
-    let at : item_numbered rs.actions k ≡ Some it.item = only_found (is_some (target_of rs t) && on_action (is_for rs t) (item_numbered rs.actions k))
+    let at : item_numbered rs.actions k ≡ Some it.item = only_found (is_some (target_of rs t) && is_some_and (is_for rs t) (item_numbered rs.actions k))
     (item_numbered rs.actions k) it.item it.there in (
       cancel_row rs t k force (Some v) is ∙ e.0,
       subst (λ d. ChangesAction d [] k rs (step_action rs (Cancel t k force) (item_numbered rs.actions k))) (sym e.1)

@@ -33,11 +33,11 @@ pub use Rattle.rollout_machine.specs.Reports.{OfCancel, OfDeployment, Reported, 
 pub use Rattle.rollout_machine.specs.Rollouts.{Rollout, rule_at, size_in}
 pub use Rattle.rollout_machine.specs.Splits.{first_empty, first_empty_from, split, split_bounds_of, split_last}
 pub use Rattle.rollout_machine.specs.StateWords.{ActionWord, GroupWord, InError, InSync, PausedRollout, Pending, RolloutWord, RunningRollout, TargetWord}
-pub use Rattle.rollout_machine.specs.StateWords.{Unknown, all_final, group_is_started, group_number_of, group_numbered, has_started, is_for, number_of_group}
-pub use Rattle.rollout_machine.specs.StateWords.{rollout_word, started_actions_of, word_by_last, word_from}
+pub use Rattle.rollout_machine.specs.StateWords.{Unknown, all_final, group_number_of, group_numbered, has_started, is_for}
+pub use Rattle.rollout_machine.specs.StateWords.{rollout_word, word_from}
 pub use Rattle.rollout_machine.specs.Validity.{IsValid}
-pub use Rattle.rollout_machine.specs.Verdicts.{check, first_refusal, has_next, is_at_pause, is_device_action, is_known, is_ready, is_running, is_waiting}
-pub use Rattle.rollout_machine.specs.Verdicts.{notes_of, on_action, rollout_word_row, same_outcome, says_note, target_of, word_is}
+pub use Rattle.rollout_machine.specs.Verdicts.{check, first_refusal, is_device_action, is_known}
+pub use Rattle.rollout_machine.specs.Verdicts.{notes_of, rollout_word_row, same_word, says_note, target_of}
 pub use Rattle.rollout_machine.specs.declared.outcome.Outcome.{Outcome}
 pub use Rattle.rollout_machine.specs.declared.outcome.Outcome.TheVariants.{Bad, Gone, Good}
 pub use Rattle.rollout_machine.specs.declared.records.ActionRecord.{ActionRecord}
@@ -63,3 +63,7 @@ pub use Rattle.campaign_core.specs.declared.rollout_checks.actions.ActionView.{A
 pub use Rattle.campaign_core.specs.declared.rollout_checks.actions.CancelView.{CancelView}
 pub use Rattle.campaign_core.specs.declared.rollout_checks.of_devices.DeviceAction.{DeviceAction}
 pub use Rattle.std.proofs.Math.Bool.{and-not_self}
+pub use Rattle.rollout_machine.proofs.Words.{group_is_started, has_next, is_at_pause, is_ready, is_running, is_waiting, number_of_group, same_outcome}
+pub use Rattle.rollout_machine.proofs.Words.{word_by_last, word_is}
+pub use Rattle.rollout_machine.specs.StateWords.{started_actions_of}
+pub use Rattle.rollout_machine.specs.Ranges.{is_some_and}

@@ -4,7 +4,8 @@ use Rattle.campaign_core.proofs.Common.{nat_le, not, option_or, unwrap_or, cance
 use Rattle.campaign_core.proofs.Common.{item_numbered, CancelFeedback, CancelWord, CanceledCancel, ClosedCancel, Command, Credential, DeploymentWord, Feedback}
 use Rattle.campaign_core.proofs.Common.{DeviceFeedback, NotedCancel, RejectedCancel, act_on, step_action, Records, OfCancel, OfDeployment, Reported, Said}
 use Rattle.campaign_core.proofs.Common.{is_again, reported, reported_by, says_again, says_old, standing_of, Standing, Again, Fresh, Old, ActionRecord, check}
-use Rattle.campaign_core.proofs.Common.{first_refusal, is_device_action, is_known, notes_of, on_action, same_outcome, says_note, Outcome, Refusal, ClosedAction}
+use Rattle.campaign_core.proofs.Common.{first_refusal, is_device_action, is_known, notes_of, is_some_and, same_outcome, says_note, Outcome, Refusal}
+use Rattle.campaign_core.proofs.Common.{ClosedAction}
 use Rattle.campaign_core.proofs.Common.{NotFound, OldNumber, Quota, Unauthorized, WrongState, AreSound, IsFeedbackView, IsDeviceAction, MayChangeAction}
 use Rattle.campaign_core.proofs.Common.{canceling_after, change_by, change_if_fresh, is_fresh, is_overtaken, arith, option_map}
 use Rattle.campaign_core.proofs.Common.{device_refusal, Result, LeadsTo, DecidesAt, JudgesFeedback, of_device, step_records, report_refusal}
@@ -69,9 +70,9 @@ pub on_deployment : (feedback : DeviceFeedback DeploymentWord) → IsReport (Fee
     (reported OfDeployment feedback) (outcome_of_deployment feedback.word)
     (λ b. b) (λ notes canceling asked. note_test (OfDeployment feedback.word) notes asked ∷ [])
 on_deployment feedback = let new : Reported = reported OfDeployment feedback in record {
-  row = λ o. first_refusal ((on_action (λ a. is_some a.outcome && not (same_outcome (outcome_of_deployment feedback.word) a.outcome)) o, ClosedAction)
-      ∷ (on_action (row.is_old new) o, OldNumber)
-      ∷ (on_action (λ a. row.is_new new a && row.is_beyond new a) o, Quota) ∷ []);
+  row = λ o. first_refusal ((is_some_and (λ a. is_some a.outcome && not (same_outcome (outcome_of_deployment feedback.word) a.outcome)) o, ClosedAction)
+      ∷ (is_some_and (row.is_old new) o, OldNumber)
+      ∷ (is_some_and (λ a. row.is_new new a && row.is_beyond new a) o, Quota) ∷ []);
   check_is = λ rs. refl;
   row_is = λ a. refl;
   again = λ reports. refl;
@@ -83,9 +84,9 @@ pub on_cancel : (feedback : DeviceFeedback CancelWord) → IsReport (CancelFeedb
     (outcome_of_cancel feedback.word)
     (canceling_after feedback.word) (λ notes canceling asked. (asked && not canceling, WrongState) ∷ note_test (OfCancel feedback.word) notes asked ∷ [])
 on_cancel feedback = let new : Reported = reported OfCancel feedback in record {
-  row = λ o. first_refusal ((on_action (λ a. is_some a.outcome && not (same_outcome (outcome_of_cancel feedback.word) a.outcome)) o, ClosedAction)
-      ∷ (on_action (row.is_old new) o, OldNumber)
-      ∷ (on_action (λ a. row.is_new new a && not a.canceling) o, WrongState) ∷ (on_action (λ a. row.is_new new a && row.is_beyond new a) o, Quota) ∷ []);
+  row = λ o. first_refusal ((is_some_and (λ a. is_some a.outcome && not (same_outcome (outcome_of_cancel feedback.word) a.outcome)) o, ClosedAction)
+      ∷ (is_some_and (row.is_old new) o, OldNumber)
+      ∷ (is_some_and (λ a. row.is_new new a && not a.canceling) o, WrongState) ∷ (is_some_and (λ a. row.is_new new a && row.is_beyond new a) o, Quota) ∷ []);
   check_is = λ rs. refl;
   row_is = λ a. refl;
   again = λ reports. refl;

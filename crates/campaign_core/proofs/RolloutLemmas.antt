@@ -4,7 +4,8 @@ use Rattle.campaign_core.proofs.Common.{◌≡◌, ℕ, Bool, true, false, List,
 use Rattle.campaign_core.proofs.Common.{nat_lt, not, is_none, option_map, eq-eqb, eqb-true, item_numbered, Resume, Start, TriggerNext, next_if}
 use Rattle.campaign_core.proofs.Common.{starts_next, change_rollout, group_view, last_started, resumed, step_records}
 use Rattle.campaign_core.proofs.Common.{triggered, view_of, Records, RolloutRecord, RolloutWord, rollout_word}
-use Rattle.campaign_core.proofs.Common.{first_refusal, has_next, is_at_pause, is_running, rollout_word_row, word_is, Effects, RolloutView, Refusal, NotFound}
+use Rattle.campaign_core.proofs.Common.{first_refusal, has_next, is_at_pause, is_running, same_word, rollout_word_row, word_is, Effects, RolloutView, Refusal}
+use Rattle.campaign_core.proofs.Common.{NotFound}
 use Rattle.campaign_core.proofs.Common.{WrongState, AreSound, ChangesRollout, Decides, IsResumeView, IsStandingView, IsTriggerView, StartsRollout}
 use Rattle.campaign_core.proofs.Common.{change_numbered, moved_by, resumed_by, word_refusal}
 use Rattle.campaign_core.specs.declared.rollout_checks.RolloutChange.TheVariants as change
@@ -47,9 +48,9 @@ row_is : (p : RolloutWord → Bool) (o : Option RolloutRecord) → first_refusal
 row_is p o = grind arith
 
 -- the row of a command on a rollout, by its state
-pub word_row : (p : RolloutWord → Bool) (v : StandingView) (r : ℕ) (rs : Records) (result : Option Refusal) → IsStandingView v r rs → word_refusal p v.word
-    ≡ result → first_refusal (rollout_word_row rs r p) ≡ result
-word_row p v r rs result is e = row_is p (item_numbered rs.rollouts r) ∙ sym (ap (word_refusal p) is.word) ∙ e
+pub word_row : (word : RolloutWord) (v : StandingView) (r : ℕ) (rs : Records) (result : Option Refusal) → IsStandingView v r rs
+    → word_refusal (same_word word) v.word ≡ result → first_refusal (rollout_word_row rs r word) ≡ result
+word_row word v r rs result is e = row_is (same_word word) (item_numbered rs.rollouts r) ∙ sym (ap (word_refusal (same_word word)) is.word) ∙ e
 
 -- the same where the rollout is there
 pub found_row : (p : RolloutWord → Bool) (o : Option RolloutRecord) (x : RolloutRecord) (word : RolloutWord) → o ≡ Some x → word ≡ rollout_word x

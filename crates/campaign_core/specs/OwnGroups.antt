@@ -10,7 +10,8 @@ use Rattle.rollout_machine.specs.Progress.{is_paused}
 use Rattle.rollout_machine.specs.RecordSteps.{group_view, view_of}
 use Rattle.rollout_machine.specs.Records.{records}
 use Rattle.rollout_machine.specs.Rollouts.{Rollout}
-use Rattle.rollout_machine.specs.StateWords.{group_is_started, group_number_of, group_numbered}
+use Rattle.rollout_machine.specs.Ranges.{is_some_and}
+use Rattle.rollout_machine.specs.StateWords.{group_number_of, group_numbered}
 use Rattle.rollout_machine.specs.Validity.{IsValid}
 use Rattle.rollout_machine.specs.declared.outcome.Outcome.{Outcome}
 use Rattle.rollout_machine.specs.declared.outcome.Outcome.TheVariants.{Good, Bad, Gone}
@@ -33,7 +34,7 @@ abbrev pub own_view_of : RolloutRecord → ℕ → OwnView
 own_view_of x i = record {
   paused = x.paused;
   own = group_view x i;
-  next_waits = group_is_started (group_numbered i x.groups) && waits (group_numbered (i + 1) x.groups);
+  next_waits = is_some_and (λ (g : GroupRecord). g.started) (group_numbered i x.groups) && waits (group_numbered (i + 1) x.groups);
 }
 
 -- a success that is enough starts the next group, and a failure that is too much pauses the rollout

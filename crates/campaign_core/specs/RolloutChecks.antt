@@ -9,17 +9,19 @@ use Rattle.rollout_machine.specs.ByteStrings.{item_numbered, same_bytes}
 use Rattle.rollout_machine.specs.CommandList.{CommandList, ◌▸◌}
 use Rattle.rollout_machine.specs.Commands.{Bytes, CancelWord, Command, Credential, DeploymentWord, RolloutPlan, RejectedCancel, Approve, Cancel}
 use Rattle.rollout_machine.specs.Commands.{CancelFeedback, CreateRollout, Deny, Feedback, Pause, Resume, Start, TriggerNext}
+use Rattle.rollout_machine.specs.Counts.{is_outcome}
 use Rattle.rollout_machine.specs.Groupings.{Grouping, leaves_empty}
-use Rattle.rollout_machine.specs.Ranges.{each_from}
+use Rattle.rollout_machine.specs.Ranges.{each_from, is_some_and}
 use Rattle.rollout_machine.specs.RecordSteps.{begin_rollout, counted, is_same_action, last_started, new_actions, new_group, start_group, step_records, view_of}
 use Rattle.rollout_machine.specs.Records.{Approval, Denied, Given, Records, Waiting, records}
 use Rattle.rollout_machine.specs.declared.records.ActionRecord.{ActionRecord}
+use Rattle.rollout_machine.specs.declared.records.GroupRecord.{GroupRecord}
 use Rattle.rollout_machine.specs.declared.records.RolloutRecord.{RolloutRecord}
 use Rattle.rollout_machine.specs.Reports.{OfDeployment, OfCancel, Reported, reported, says_old, standing_of}
 use Rattle.rollout_machine.specs.Rollouts.{chosen}
 use Rattle.rollout_machine.specs.StateWords.{RolloutWord, group_number_of, has_started, is_for, rollout_word}
 use Rattle.rollout_machine.specs.Validity.{IsValid}
-use Rattle.rollout_machine.specs.Verdicts.{check, first_refusal, has_next, is_device_action, is_known, notes_of, on_action, same_outcome, says_note}
+use Rattle.rollout_machine.specs.Verdicts.{check, first_refusal, is_device_action, is_known, notes_of, says_note}
 use Rattle.rollout_machine.specs.Verdicts.{target_of, verdict}
 use Rattle.rollout_machine.specs.declared.outcome.Outcome.{Outcome}
 use Rattle.rollout_machine.specs.declared.outcome.Outcome.TheVariants.{Gone}
@@ -145,7 +147,7 @@ pub record IsResumeView (v : ResumeView) (x : RolloutRecord) : Type 0 where
 
 pub record IsTriggerView (v : TriggerView) (x : RolloutRecord) : Type 0 where
   pub word : v.word ≡ rollout_word x
-  pub has_next : v.has_next ≡ has_next (Some x)
+  pub has_next : v.has_next ≡ list_any (λ (g : GroupRecord). not g.started) x.groups
   pub rollout : v.rollout ≡ view_of x (last_started x.groups)
 
 -- a pause that was ends, and the group that the effects name is started
@@ -181,7 +183,7 @@ only_if b o = cond b o None
 
 -- the action of this number, where the target is there and the action is the target's
 abbrev pub action_for : Records → Bytes → ℕ → Option ActionRecord
-action_for rs t k = only_if (is_some (target_of rs t) && on_action (is_for rs t) (item_numbered rs.actions k)) (item_numbered rs.actions k)
+action_for rs t k = only_if (is_some (target_of rs t) && is_some_and (is_for rs t) (item_numbered rs.actions k)) (item_numbered rs.actions k)
 
 -- the action of this number, where it is the device's and its group is started
 abbrev pub device_action : Records → Bytes → ℕ → Option ActionRecord
@@ -211,7 +213,7 @@ of_device a = record { misses_device = false; own_action = Some a }
 
 -- another outcome than this one, or none, is given
 abbrev pub gives_other : Option Outcome → ActionView → Bool
-gives_other gives v = is_some v.outcome && not (same_outcome gives v.outcome)
+gives_other gives v = is_some v.outcome && not (is_some_and (λ o. is_outcome o v.outcome) gives)
 
 abbrev pub says_fresh : Standing → Bool
 says_fresh Fresh = true

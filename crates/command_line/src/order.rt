@@ -3,6 +3,7 @@
 ghost use Rattle.std.specs.Prelude.{◌≡◌, ◌≢◌, IfErr, IfOk, IfSome, IfNone, map, false, Some, codes};
 ghost use Rattle.std.specs.Option.{option_map};
 ghost use Rattle.clap.specs.Words.{rule_of, app_of, rows_of, found_of, first_of, kind_of, subcommand_of, subcommand_rows_of};
+ghost use Rattle.clap.specs.Words.{with_rule, with_subcommand};
 ghost use Rattle.clap.specs.declared.builder.command.Command.TheViews.{out-Command as fields_of};
 ghost use Rattle.command_line.specs.Orders.{db_rule, interface_rule, approval_rule, port_rule, connections_rule, file_rule, run_app, port_app};
 ghost use Rattle.command_line.specs.Orders.{serve_app, import_app, rollout_rule, report_app, verify_app, serving_app, asking_app, program_app};
@@ -128,6 +129,24 @@ fn approval<'a>(alloc: Global) -> Arg<'a>
         .help("A new desk asks for approval of each rollout")
 }
 
+/// A subcommand with one more option.
+fn with_option<'a>(command: Command<'a>, option: Arg<'a>) -> Result<Command<'a>, AllocError>
+    ensures app { IfOk result (λ c. option.entry.global ≡ false → app_of c ≡ with_rule (app_of command.entry) (rule_of option.entry)) }
+    ensures local { IfOk result (λ c. option.entry.global ≡ false → (fields_of c).has_globals ≡ (fields_of command.entry).has_globals) }
+{
+    let with_option = command.arg(option)?;
+    Ok(with_option)
+}
+
+/// The program with one more subcommand.
+fn with_order<'a>(program: Command<'a>, order: Command<'a>) -> Result<Command<'a>, AllocError>
+    ensures { IfOk result (λ c. (fields_of order.entry).has_globals ≡ false
+        → app_of c ≡ with_subcommand (app_of program.entry) (app_of order.entry).top) }
+{
+    let with_order = program.subcommand(order)?;
+    Ok(with_order)
+}
+
 fn run<'a>(alloc: Global) -> Result<Command<'a>, AllocError>
     ensures app { IfOk result (λ c. app_of c ≡ run_app) }
     ensures local { IfOk result (λ c. (fields_of c).has_globals ≡ false) }
@@ -135,9 +154,10 @@ fn run<'a>(alloc: Global) -> Result<Command<'a>, AllocError>
     let run = Command::new(alloc, "run").about(
         "Serves the requests of standard input to standard output",
     );
-    let with_db = run.arg(db(alloc))?;
-    let with_interface = with_db.arg(interface(alloc))?;
-    with_interface.arg(approval(alloc))
+    let with_db = with_option(run, db(alloc))?;
+    let with_interface = with_option(with_db, interface(alloc))?;
+    let with_approval = with_option(with_interface, approval(alloc))?;
+    Ok(with_approval)
 }
 
 fn port<'a>(alloc: Global) -> Arg<'a>
@@ -170,17 +190,19 @@ fn serve_port<'a>(alloc: Global) -> Result<Command<'a>, AllocError>
     let serve = Command::new(alloc, "serve").about(
         "Serves connections to a port of 127.0.0.1, one after the other",
     );
-    let with_port = serve.arg(port(alloc))?;
-    with_port.arg(connections(alloc))
+    let with_port = with_option(serve, port(alloc))?;
+    let with_connections = with_option(with_port, connections(alloc))?;
+    Ok(with_connections)
 }
 
 fn serve<'a>(alloc: Global) -> Result<Command<'a>, AllocError>
     ensures app { IfOk result (λ c. app_of c ≡ serve_app) }
     ensures local { IfOk result (λ c. (fields_of c).has_globals ≡ false) }
 {
-    let with_db = serve_port(alloc)?.arg(db(alloc))?;
-    let with_interface = with_db.arg(interface(alloc))?;
-    with_interface.arg(approval(alloc))
+    let with_db = with_option(serve_port(alloc)?, db(alloc))?;
+    let with_interface = with_option(with_db, interface(alloc))?;
+    let with_approval = with_option(with_interface, approval(alloc))?;
+    Ok(with_approval)
 }
 
 fn file<'a>(alloc: Global) -> Arg<'a>
@@ -199,8 +221,9 @@ fn import<'a>(alloc: Global) -> Result<Command<'a>, AllocError>
     ensures local { IfOk result (λ c. (fields_of c).has_globals ≡ false) }
 {
     let import = Command::new(alloc, "import").about("Puts the targets of a CSV file");
-    let with_db = import.arg(db(alloc))?;
-    with_db.arg(file(alloc))
+    let with_db = with_option(import, db(alloc))?;
+    let with_file = with_option(with_db, file(alloc))?;
+    Ok(with_file)
 }
 
 fn rollout<'a>(alloc: Global) -> Arg<'a>
@@ -219,8 +242,9 @@ fn report<'a>(alloc: Global) -> Result<Command<'a>, AllocError>
     ensures local { IfOk result (λ c. (fields_of c).has_globals ≡ false) }
 {
     let report = Command::new(alloc, "report").about("Prints how far a rollout is");
-    let with_db = report.arg(db(alloc))?;
-    with_db.arg(rollout(alloc))
+    let with_db = with_option(report, db(alloc))?;
+    let with_rollout = with_option(with_db, rollout(alloc))?;
+    Ok(with_rollout)
 }
 
 fn verify<'a>(alloc: Global) -> Result<Command<'a>, AllocError>
@@ -228,7 +252,7 @@ fn verify<'a>(alloc: Global) -> Result<Command<'a>, AllocError>
     ensures local { IfOk result (λ c. (fields_of c).has_globals ≡ false) }
 {
     let verify = Command::new(alloc, "verify").about("Prints ok, or the first damaged table");
-    verify.arg(db(alloc))
+    with_option(verify, db(alloc))
 }
 
 /// The program with the subcommands that serve.
@@ -238,8 +262,9 @@ fn serving<'a>(alloc: Global) -> Result<Command<'a>, AllocError>
     let run = run(alloc)?;
     let serve = serve(alloc)?;
     let named = Command::new(alloc, "fwdesk").version(VERSION);
-    let with_run = named.subcommand(run)?;
-    with_run.subcommand(serve)
+    let with_run = with_order(named, run)?;
+    let with_serve = with_order(with_run, serve)?;
+    Ok(with_serve)
 }
 
 /// The same with those that ask once and end.
@@ -248,15 +273,16 @@ fn asking<'a>(alloc: Global) -> Result<Command<'a>, AllocError>
 {
     let import = import(alloc)?;
     let report = report(alloc)?;
-    let with_import = serving(alloc)?.subcommand(import)?;
-    with_import.subcommand(report)
+    let with_import = with_order(serving(alloc)?, import)?;
+    let with_report = with_order(with_import, report)?;
+    Ok(with_report)
 }
 
 fn program<'a>(alloc: Global) -> Result<Command<'a>, AllocError>
     ensures app { IfOk result (λ c. app_of c ≡ program_app) }
 {
     let verify = verify(alloc)?;
-    asking(alloc)?.subcommand(verify)
+    with_order(asking(alloc)?, verify)
 }
 
 fn interface_of(word: &str) -> Option<Interface>

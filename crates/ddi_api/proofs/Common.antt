@@ -11,9 +11,10 @@ pub use Rattle.rollout_machine.specs.Views.{chunk, deployment}
 pub use Rattle.request_target.specs.Routes.{route_in}
 pub use Rattle.mgmt_objects.specs.Traverse.{traverse}
 pub use Rattle.ddi_api.specs.ConfigBodies.{attribute_of, member_attributes}
-pub use Rattle.ddi_api.specs.FeedbackBodies.{detail_in}
+pub use Rattle.mgmt_objects.specs.Bodies.{text_in}
+pub use Rattle.rollout_model.specs.Rules.{is_detail}
 pub use Rattle.ddi_api.specs.Letters.{artifact_letters, behind_commas, cancel_letters, chunk_letters, deployment_letters, poll_letters, separated}
-pub use Rattle.ddi_api.specs.Objects.{action_path, device_artifact_data, cancel_data, chunk_data, config_data, deployment_data, deployment_object}
+pub use Rattle.ddi_api.specs.Objects.{action_path, device_artifact_data, cancel_data, chunk_data, deployment_data, deployment_object}
 pub use Rattle.ddi_api.specs.Objects.{download_path}
 pub use Rattle.ddi_api.specs.Objects.{link_data, offer_kind, poll_data, shown_chunk}
 pub use Rattle.ddi_api.specs.Routes.{device_table, method_of}

@@ -14,18 +14,21 @@ use Rattle.rollout_machine.specs.Requests.{Rejected}
 use Rattle.ddi_api.specs.declared.call.DeviceCall.{DeviceCall}
 use Rattle.ddi_api.specs.Credentials.{credential_of}
 use Rattle.ddi_api.specs.Reading.{device_reading}
-use Rattle.ddi_api.specs.Replies.{reply_text}
-use Rattle.ddi_api.specs.Table.{device_call}
+use Rattle.mgmt_api.specs.Replies.{text_of}
+use Rattle.ddi_api.specs.Replies.{parts_of}
+use Rattle.request_target.specs.Routes.{route_of}
 
 pub device_table_is_good : are_routes device_table ≡ true
 unfolding matchit_on_literals
 device_table_is_good = refl
 
-pub device_call-text : (path : List ℕ) → IsUtf8 path → device_call path ≡ route_in device_table path
-device_call-text path text = rw (is_utf8-from_IsUtf8 path text) refl
+pub route_of-text : (path : List ℕ) → IsUtf8 path → route_of device_table path ≡ route_in device_table path
+unfolding route_of
+route_of-text path text = rw (is_utf8-from_IsUtf8 path text) refl
 
-pub device_call-no_text : (path : List ℕ) → (IsUtf8 path → ⊥) → device_call path ≡ None
-device_call-no_text path unread = by (is_utf8 path) (λ is. unread (IsUtf8-from_is_utf8 path is))
+pub route_of-no_text : (path : List ℕ) → (IsUtf8 path → ⊥) → route_of device_table path ≡ None
+unfolding route_of
+route_of-no_text path unread = by (is_utf8 path) (λ is. unread (IsUtf8-from_is_utf8 path is))
   where
     by : (v : Bool) → (v ≡ true → ⊥) → cond v (route_in device_table path) None ≡ None
     by true no_text = absurd (no_text refl)
@@ -39,10 +42,11 @@ spelled-no_text low high bs unread = by (is_spelled is_word_letter low high bs) 
     by true is = absurd (unread (spelled_is_utf8 low high bs is))
     by false is = refl
 
-pub unauthorized_first : (m : WireMessage) (call : DeviceCall) → device_call (path_of m.target) ≡ Some call → bytes_eq m.method (method_of call) ≡ true
+pub unauthorized_first : (m : WireMessage) (call : DeviceCall) → route_of device_table (path_of m.target) ≡ Some call → bytes_eq m.method (method_of call)
+    ≡ true
     → credential_of m ≡ None → device_reading m ≡ Rejected Unauthorized
 unauthorized_first m call route method nobody = rw (route, method, nobody) refl
 
-pub reply_text-Refused : (refusal : Refusal) → reply_text (Refused refusal) ≡ refusal_text refusal
+pub text_of-Refused : (refusal : Refusal) → text_of (parts_of (Refused refusal)) ≡ refusal_text refusal
 unfolding refusal_text
-reply_text-Refused refusal = refl
+text_of-Refused refusal = refl

@@ -1,6 +1,6 @@
 -- The texts that devices are shown, letter by letter.
 use Rattle.ddi_api.proofs.Common.{◌≡◌, ℕ, List, [], ◌∷◌, ◌++◌, Bool, true, false, Option, Some, None, codes, decimal, map, refl, append_assoc, quoted}
-use Rattle.ddi_api.proofs.Common.{items_of, Artifact, Chunk, Deployment, action_path, device_artifact_data, cancel_data, chunk_data, config_data}
+use Rattle.ddi_api.proofs.Common.{items_of, Artifact, Chunk, Deployment, action_path, device_artifact_data, cancel_data, chunk_data}
 use Rattle.ddi_api.proofs.Common.{deployment_data}
 use Rattle.ddi_api.proofs.Common.{download_path, link_data, offer_kind, poll_data, artifact_letters, behind_commas, cancel_letters, chunk_letters}
 use Rattle.ddi_api.proofs.Common.{deployment_letters, poll_letters, separated}
@@ -26,7 +26,8 @@ items_spelled shows letters same (x ∷ xs) = rw (same x, behind_bracket shows l
 -- by the path of what is offered
 offered_at : (canceling : Bool) (path : List ℕ)
     → compact_text (object (member (codes "_links") (object (member (offer_kind canceling) (link_data path) no_members))
-    (member (codes "config") config_data no_members)))
+    (member (codes "config") (object (member (codes "polling") (object (member (codes "sleep") (string (codes "00:05:00")) no_members)) no_members))
+    no_members)))
     ≡ concat (codes "{\"_links\":{" ∷ concat (codes "\"" ∷ offer_kind canceling ∷ codes "\":{\"href\":" ∷ quoted path ∷ codes "}" ∷ [])
     ∷ codes "},\"config\":{\"polling\":{\"sleep\":\"00:05:00\"}}}" ∷ [])
 unfolding serde_json_on_literals

@@ -5,12 +5,12 @@ use Rattle.serde_json.specs.Find.{get, as_str, as_object}
 use Rattle.rollout_model.specs.Pairs.{is_config_data}
 use Rattle.rollout_model.specs.Rules.{kept_if, is_value, is_word}
 use Rattle.rollout_model.specs.declared.target.Attribute.{Attribute}
-use Rattle.mgmt_objects.specs.Bodies.{body_data}
+use Rattle.mgmt_objects.specs.Bodies.{text_in}
 
 -- a key that is a word, and a value of attributes
 abbrev pub attribute_of : List ℕ → Data → Option Attribute
 attribute_of key d =
-    option_and_then (λ word. option_map (λ value. record { key = word; value = value }) (option_and_then (kept_if is_value) (as_str d))) (kept_if is_word key)
+    option_and_then (λ word. option_map (λ value. record { key = word; value = value }) (text_in is_value d)) (kept_if is_word key)
 
 -- the members of an object, which has each key once, by their keys in byte order
 abbrev pub member_attributes : Members → Option (List Attribute)
@@ -27,6 +27,3 @@ config_of d =
     if is_merge (get (codes "mode") d)
     then option_and_then (kept_if is_config_data) (option_and_then member_attributes (option_and_then as_object (get (codes "data") d)))
     else None
-
-abbrev pub config_body : List ℕ → Option (List Attribute)
-config_body bytes = option_and_then config_of (body_data bytes)

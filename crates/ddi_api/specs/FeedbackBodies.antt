@@ -1,13 +1,14 @@
 -- Feedback in a body.
 use Rattle.std.specs.Prelude.{ℕ, List, [], ◌∷◌, codes, bytes_eq, ◌&&◌, Option, Some, None, option_and_then, option_map, if◌then◌else◌}
+use Rattle.std.specs.Option.{option_map_or}
 use Rattle.serde_json.specs.Data.{Data}
-use Rattle.serde_json.specs.Find.{get, as_str}
+use Rattle.serde_json.specs.Find.{get}
 use Rattle.rollout_model.specs.Rules.{kept_if, is_detail, are_details, is_feedback_number}
 use Rattle.rollout_model.specs.declared.feedback.DeviceFeedback.{DeviceFeedback}
 use Rattle.rollout_machine.specs.Commands.{Credential, Proceeding, Scheduled, Resumed, DeploymentWord, Succeeded, Failed, Rejected, Noted, CancelWord}
 use Rattle.rollout_machine.specs.Commands.{ClosedCancel, CanceledCancel, RejectedCancel, NotedCancel}
-use Rattle.mgmt_objects.specs.Bodies.{body_data, if_given, string_member, whole_of}
-use Rattle.mgmt_objects.specs.Traverse.{array_if_given}
+use Rattle.mgmt_objects.specs.Bodies.{if_given, string_member, text_in, whole_of}
+use Rattle.mgmt_objects.specs.Traverse.{array_of}
 
 -- the word of a pair of `execution` and `finished`, if it has a row
 abbrev pub word_by_rows : {W : Type 0} → List (List ℕ × List ℕ × W) → List ℕ → List ℕ → Option W
@@ -38,25 +39,14 @@ status_word words status =
     option_and_then (λ execution. option_and_then (words execution)
     (option_and_then (string_member (codes "finished")) (get (codes "result") status))) (string_member (codes "execution") status)
 
--- a value that is a line
-abbrev pub detail_in : Data → Option (List ℕ)
-detail_in d = option_and_then (kept_if is_detail) (as_str d)
-
 -- the number that the device gave, which stands beside `status`, and none where it is missing
 abbrev pub number_given : Data → Option (Option ℕ)
 number_given d = if_given (λ d. option_and_then (kept_if is_feedback_number) (whole_of d)) (get (codes "number") d)
 
--- what `status` says of an action, beside the number: a word, and at most 8 lines
-abbrev pub feedback_of : {W : Type 0} → (List ℕ → List ℕ → Option W) → Credential → ℕ → Option ℕ → Data → Option (DeviceFeedback W)
-feedback_of words device action number status =
-    option_and_then (λ word. option_map
-    (λ details. record { credential = device; action = action; word = word; details = details; number = number })
-    (option_and_then (kept_if are_details) (array_if_given detail_in (get (codes "details") status)))) (status_word words status)
-
--- an object with `status`, and perhaps `number`
+-- an object with `status`, which says a word and perhaps at most 8 lines, and perhaps `number`
 abbrev pub feedback_in : {W : Type 0} → (List ℕ → List ℕ → Option W) → Credential → ℕ → Data → Option (DeviceFeedback W)
-feedback_in words device action d = option_and_then (λ number. option_and_then (feedback_of words device action number) (get (codes "status") d))
-    (number_given d)
-
-abbrev pub feedback_body : {W : Type 0} → (List ℕ → List ℕ → Option W) → Credential → ℕ → List ℕ → Option (DeviceFeedback W)
-feedback_body words device action bytes = option_and_then (feedback_in words device action) (body_data bytes)
+feedback_in words device action d =
+    option_and_then (λ number. option_and_then (λ status. option_and_then (λ word. option_map
+    (λ details. record { credential = device; action = action; word = word; details = details; number = number })
+    (option_and_then (kept_if are_details) (option_map_or (array_of (text_in is_detail)) (get (codes "details") status) (Some []))))
+    (status_word words status)) (get (codes "status") d)) (number_given d)

@@ -1,5 +1,4 @@
 pub mod Routes
-pub mod Table
 pub mod Credentials
 pub mod FeedbackBodies
 pub mod ConfigBodies

@@ -33,12 +33,12 @@ abbrev pub offer_links : List ℕ → Option Offer → Members
 offer_links id None = no_members
 offer_links id (Some offer) = member (offer_kind offer.canceling) (link_data (action_path id (offer_kind offer.canceling) offer.action)) no_members
 
-abbrev pub config_data : Data
-config_data = object (member (codes "polling") (object (member (codes "sleep") (string (codes "00:05:00")) no_members)) no_members)
-
--- what a device polls
+-- what a device polls, and how long it sleeps until it polls again
 abbrev pub poll_data : List ℕ → Option Offer → Data
-poll_data id offer = object (member (codes "_links") (object (offer_links id offer)) (member (codes "config") config_data no_members))
+poll_data id offer =
+    object (member (codes "_links") (object (offer_links id offer))
+    (member (codes "config") (object (member (codes "polling") (object (member (codes "sleep") (string (codes "00:05:00")) no_members)) no_members))
+    no_members))
 
 -- the action that is to be canceled, its number as a text
 abbrev pub cancel_data : ℕ → Data
@@ -57,14 +57,12 @@ chunk_data id c =
     (member (codes "name") (string c.label.name) (member (codes "part") (string c.label.kind)
     (member (codes "version") (string c.label.version) no_members))))
 
-abbrev pub chunks_data : List Data → Data
-chunks_data chunks =
-    object (member (codes "chunks") (array (items_of chunks))
-    (member (codes "download") (string (codes "forced")) (member (codes "update") (string (codes "forced")) no_members)))
-
 -- what a device is to install, the action's number as a text
 abbrev pub deployment_object : ℕ → List Data → Data
-deployment_object action chunks = object (member (codes "deployment") (chunks_data chunks) (member (codes "id") (string (decimal action)) no_members))
+deployment_object action chunks =
+    object (member (codes "deployment") (object (member (codes "chunks") (array (items_of chunks))
+    (member (codes "download") (string (codes "forced")) (member (codes "update") (string (codes "forced")) no_members))))
+    (member (codes "id") (string (decimal action)) no_members))
 
 -- the object of a module as the types of replies hold it
 abbrev pub shown_chunk : List ℕ → RustChunk → Data

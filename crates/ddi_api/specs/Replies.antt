@@ -1,7 +1,6 @@
 -- The text of each reply.
-use Rattle.std.specs.Prelude.{ℕ, List, []}
+use Rattle.std.specs.Prelude.{[]}
 use Rattle.serde_json.specs.Written.{compact_text}
-use Rattle.http_wire.specs.Replies.{reply_text as wire_text}
 use Rattle.http_wire.specs.declared.reply.ContentType.TheVariants.{Octets}
 use Rattle.rollout_machine.specs.Replies.{Reply, Refused, Done, ContentsShown, PollShown, DeploymentShown, CancelShown}
 use Rattle.mgmt_api.specs.Replies.{ReplyParts, file_reply, json_reply, parts_of as manage_parts_of}
@@ -17,7 +16,3 @@ parts_of (PollShown target offer) = json_reply 200 (compact_text (poll_data targ
 parts_of (DeploymentShown d) = json_reply 200 (compact_text (deployment_data d))
 parts_of (CancelShown action) = json_reply 200 (compact_text (cancel_data action))
 parts_of _ = json_reply 200 []
-
--- the whole text of a reply on the wire
-abbrev pub reply_text : Reply → List ℕ
-reply_text reply = wire_text (parts_of reply).status (parts_of reply).content_type (parts_of reply).ends (parts_of reply).body

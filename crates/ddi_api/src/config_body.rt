@@ -3,10 +3,11 @@
 ghost use Rattle.std.specs.Prelude.{◌≡◌, codes, option_and_then, option_map};
 ghost use Rattle.serde_json.specs.Find.{as_object, get};
 ghost use Rattle.serde_json.specs.View.{members_view, view};
+ghost use Rattle.mgmt_objects.specs.Bodies.{body_data};
 ghost use Rattle.mgmt_objects.specs.Readings.{ReadsAs};
 ghost use Rattle.rollout_model.specs.Pairs.{is_config_data};
 ghost use Rattle.rollout_model.specs.Rules.{kept_if};
-ghost use Rattle.ddi_api.specs.ConfigBodies.{attribute_of, member_attributes, config_body, config_of, is_merge};
+ghost use Rattle.ddi_api.specs.ConfigBodies.{attribute_of, member_attributes, config_of, is_merge};
 
 use mgmt_objects::read_value;
 use rollout_model::{Attribute, Attributes, ConfigData, Refusal, Value as AttributeValue, Word};
@@ -88,7 +89,7 @@ fn read_config(alloc: Global, object: &Value) -> Result<ConfigData, Refusal>
 /// What the body of `PUT ../configData` gives: an object with `data`, at most 32 members that are texts, and perhaps `mode`, which
 /// is `merge`.
 pub(crate) fn read_config_body(alloc: Global, bytes: &[u8]) -> Result<ConfigData, Refusal>
-    ensures { ReadsAs (config_body bytes.now) result }
+    ensures { ReadsAs (option_and_then config_of (body_data bytes.now)) result }
 {
     let value = read_value(alloc, bytes)?;
     read_config(alloc, &value)

@@ -1,7 +1,7 @@
 //! Who a message says that it is from.
 
 ghost use Rattle.std.specs.Prelude.{◌≡◌, codes, option_and_then, option_map};
-ghost use Rattle.http_wire.specs.Fields.{sole_value};
+ghost use Rattle.http_wire.specs.Fields.{fields_named, value_of_one};
 ghost use Rattle.http_wire.specs.Inbox.{message_of};
 ghost use Rattle.mgmt_api.specs.Reading.{path_word};
 ghost use Rattle.ddi_api.specs.Credentials.{after_scheme, credential_of, digest_of_value};
@@ -21,7 +21,7 @@ fn after_scheme(value: &[u8]) -> Option<&[u8]>
 
 /// The value of the one field `authorization`; `None` where there is none, or more than one.
 fn authorization_of<'a>(message: &Message<'a>) -> Option<&'a [u8]>
-    ensures { option_map (λ s. s.now) result ≡ sole_value (codes "authorization") (message_of message.now).fields }
+    ensures { option_map (λ s. s.now) result ≡ value_of_one (fields_named (codes "authorization") (message_of message.now).fields) }
 {
     sole_value(message.fields(), b"authorization")
 }
@@ -37,7 +37,7 @@ fn digest_of_value(value: &[u8]) -> Option<Digest>
 }
 
 fn digest_shown(message: &Message<'_>) -> Option<Digest>
-    ensures { result ≡ option_and_then digest_of_value (sole_value (codes "authorization") (message_of message.now).fields) }
+    ensures { result ≡ option_and_then digest_of_value (value_of_one (fields_named (codes "authorization") (message_of message.now).fields)) }
 {
     let value = authorization_of(message)?;
     digest_of_value(value)

@@ -1,14 +1,14 @@
 //! Feedback in a body.
 
-ghost use Rattle.std.specs.Prelude.{◌≡◌, ℕ, List, Option, codes, map, option_and_then, option_map};
+ghost use Rattle.std.specs.Prelude.{◌≡◌, ℕ, List, [], Option, Some, codes, map, option_and_then, option_map};
+ghost use Rattle.std.specs.Option.{option_map_or};
 ghost use Rattle.serde_json.specs.Find.{get};
 ghost use Rattle.serde_json.specs.View.{view};
 ghost use Rattle.mgmt_objects.specs.Readings.{ReadsAs, ReadsBy, ReadsExactly};
-ghost use Rattle.mgmt_objects.specs.Traverse.{array_if_given, array_of, traverse};
-ghost use Rattle.mgmt_objects.specs.Bodies.{string_member, whole_of};
-ghost use Rattle.rollout_model.specs.Rules.{are_details, is_feedback_number, kept_if};
-ghost use Rattle.ddi_api.specs.FeedbackBodies.{cancel_word, deployment_word, detail_in, feedback_body};
-ghost use Rattle.ddi_api.specs.FeedbackBodies.{feedback_in, feedback_of, number_given, status_word};
+ghost use Rattle.mgmt_objects.specs.Traverse.{array_of, traverse};
+ghost use Rattle.mgmt_objects.specs.Bodies.{body_data, string_member, text_in, whole_of};
+ghost use Rattle.rollout_model.specs.Rules.{are_details, is_detail, is_feedback_number, kept_if};
+ghost use Rattle.ddi_api.specs.FeedbackBodies.{cancel_word, deployment_word, feedback_in, number_given, status_word};
 
 use mgmt_objects::{read_value, read_whole};
 use rollout_model::{
@@ -20,7 +20,7 @@ use std::alloc::Global;
 
 /// A line of a feedback.
 fn read_line(alloc: Global, value: &Value) -> Result<Detail, Refusal>
-    ensures { ReadsAs (detail_in (view value.now)) result }
+    ensures { ReadsAs (text_in is_detail (view value.now)) result }
 {
     let Some(text) = value.as_str() else {
         return Err(Refusal::BadRequest);
@@ -33,7 +33,7 @@ fn read_line(alloc: Global, value: &Value) -> Result<Detail, Refusal>
 }
 
 fn read_all(alloc: Global, values: &[Value]) -> Result<Vec<Detail>, Refusal>
-    ensures { ReadsBy (λ v. v.items) (traverse detail_in (map view values.now)) result }
+    ensures { ReadsBy (λ v. v.items) (traverse (text_in is_detail) (map view values.now)) result }
 {
     let mut lines = Vec::new(alloc);
     for value in values {
@@ -47,7 +47,7 @@ fn read_all(alloc: Global, values: &[Value]) -> Result<Vec<Detail>, Refusal>
 }
 
 fn read_list(alloc: Global, value: &Value) -> Result<Vec<Detail>, Refusal>
-    ensures { ReadsBy (λ v. v.items) (array_of detail_in (view value.now)) result }
+    ensures { ReadsBy (λ v. v.items) (array_of (text_in is_detail) (view value.now)) result }
 {
     match value.as_array() {
         Some(values) => read_all(alloc, values),
@@ -145,7 +145,7 @@ fn word_in<W: FeedbackWord>(status: &Value) -> Option<W>
 
 /// The lines of `details`, and none where it is missing.
 fn read_lines(alloc: Global, status: &Value) -> Result<Vec<Detail>, Refusal>
-    ensures { ReadsBy (λ v. v.items) (array_if_given detail_in (get (codes "details") (view status.now))) result }
+    ensures { ReadsBy (λ v. v.items) (option_map_or (array_of (text_in is_detail)) (get (codes "details") (view status.now)) (Some [])) result }
 {
     match status.get("details") {
         Some(list) => read_list(alloc, list),
@@ -154,7 +154,8 @@ fn read_lines(alloc: Global, status: &Value) -> Result<Vec<Detail>, Refusal>
 }
 
 fn read_details(alloc: Global, status: &Value) -> Result<Details, Refusal>
-    ensures { ReadsAs (option_and_then (kept_if are_details) (array_if_given detail_in (get (codes "details") (view status.now)))) result }
+    ensures { ReadsAs (option_and_then (kept_if are_details)
+        (option_map_or (array_of (text_in is_detail)) (get (codes "details") (view status.now)) (Some []))) result }
 {
     let lines = read_lines(alloc, status)?;
     match Details::from_lines(lines) {
@@ -183,15 +184,18 @@ fn read_number(body: &Value) -> Result<Option<FeedbackNumber>, Refusal>
     }
 }
 
-fn read_status<W: FeedbackWord>(
+fn read_members<W: FeedbackWord>(
     alloc: Global,
     credential: Credential,
     action: ActionNo,
-    number: Option<FeedbackNumber>,
-    status: &Value,
+    body: &Value,
 ) -> Result<DeviceFeedback<W>, Refusal>
-    ensures { ReadsAs (feedback_of W.words credential action number (view status.now)) result }
+    ensures { ReadsAs (feedback_in W.words credential action (view body.now)) result }
 {
+    let number = read_number(body)?;
+    let Some(status) = body.get("status") else {
+        return Err(Refusal::BadRequest);
+    };
     let Some(word) = word_in::<W>(status) else {
         return Err(Refusal::BadRequest);
     };
@@ -205,21 +209,6 @@ fn read_status<W: FeedbackWord>(
     })
 }
 
-fn read_members<W: FeedbackWord>(
-    alloc: Global,
-    credential: Credential,
-    action: ActionNo,
-    body: &Value,
-) -> Result<DeviceFeedback<W>, Refusal>
-    ensures { ReadsAs (feedback_in W.words credential action (view body.now)) result }
-{
-    let number = read_number(body)?;
-    let Some(status) = body.get("status") else {
-        return Err(Refusal::BadRequest);
-    };
-    read_status::<W>(alloc, credential, action, number, status)
-}
-
 /// What the body of feedback says: an object with `status`, and perhaps `number`. In `status` are `execution`, `result` with `finished`, and
 /// perhaps `details`.
 pub(crate) fn read_feedback<W: FeedbackWord>(
@@ -228,7 +217,7 @@ pub(crate) fn read_feedback<W: FeedbackWord>(
     action: ActionNo,
     bytes: &[u8],
 ) -> Result<DeviceFeedback<W>, Refusal>
-    ensures { ReadsAs (feedback_body W.words credential action bytes.now) result }
+    ensures { ReadsAs (option_and_then (feedback_in W.words credential action) (body_data bytes.now)) result }
 {
     let value = read_value(alloc, bytes)?;
     read_members::<W>(alloc, credential, action, &value)

@@ -2,6 +2,7 @@
 
 ghost use Rattle.std.specs.Prelude.{◌≡◌, ℕ, List, Option, [], ◌∷◌, true, codes, ◌++◌, bytes_eq, replicate, Some, None, false, option_and_then};
 ghost use Rattle.serde_json.specs.Written.{compact_text};
+ghost use Rattle.request_target.specs.Routes.{route_of};
 ghost use Rattle.request_target.specs.Rows.{are_routes};
 ghost use Rattle.http_wire.specs.Messages.{WireMessage};
 ghost use Rattle.http_wire.specs.Targets.{path_of};
@@ -13,17 +14,17 @@ ghost use Rattle.rollout_machine.specs.Commands.{Succeeded, RejectedCancel};
 ghost use Rattle.rollout_machine.specs.Replies.{Deployment, PollShown, Refused};
 ghost use Rattle.rollout_machine.specs.Offers.{Offer};
 ghost use Rattle.rollout_machine.specs.Requests.{Ask, Asks, Poll, Rejected};
+ghost use Rattle.mgmt_api.specs.Replies.{text_of};
 ghost use Rattle.mgmt_objects.specs.Bodies.{body_data};
 ghost use Rattle.ddi_api.specs.declared.call.DeviceCall.{DeviceCall};
-ghost use Rattle.ddi_api.specs.ConfigBodies.{config_body};
+ghost use Rattle.ddi_api.specs.ConfigBodies.{config_of};
 ghost use Rattle.ddi_api.specs.Credentials.{credential_of, digest_of_value};
-ghost use Rattle.ddi_api.specs.FeedbackBodies.{cancel_word, deployment_word, number_given, feedback_body};
+ghost use Rattle.ddi_api.specs.FeedbackBodies.{cancel_word, deployment_word, feedback_in, number_given};
 ghost use Rattle.ddi_api.specs.Letters.{cancel_letters, deployment_letters, poll_letters};
 ghost use Rattle.ddi_api.specs.Objects.{cancel_data, deployment_data, poll_data};
 ghost use Rattle.ddi_api.specs.Reading.{device_reading};
-ghost use Rattle.ddi_api.specs.Replies.{reply_text};
+ghost use Rattle.ddi_api.specs.Replies.{parts_of};
 ghost use Rattle.ddi_api.specs.Routes.{device_table, method_of};
-ghost use Rattle.ddi_api.specs.Table.{device_call};
 
 /// What requests ask:
 /// - `routes_are_apart`: the routes are words and parameters that take a whole segment, and no path meets two of them
@@ -33,7 +34,7 @@ ghost use Rattle.ddi_api.specs.Table.{device_call};
 /// - `strangers_..`: two fields of authorization say nothing, and an id that is no word is told nothing else
 pub fn requests()
     ensures routes_are_apart { are_routes device_table ≡ true }
-    ensures unauthorized_comes_first { (m : WireMessage) → (call : DeviceCall) → device_call (path_of m.target) ≡ Some call
+    ensures unauthorized_comes_first { (m : WireMessage) → (call : DeviceCall) → route_of device_table (path_of m.target) ≡ Some call
         → bytes_eq m.method (method_of call) ≡ true → credential_of m ≡ None → device_reading m ≡ Rejected Unauthorized }
     ensures poll { device_reading (record {
       method = codes "GET";
@@ -73,13 +74,13 @@ pub fn authorizations()
 /// - `cancel_feedback`: a worked body says that a device goes on in spite of a cancel, by a number
 /// - `config`: of equal keys the last one counts, and keys stand in byte order
 pub fn bodies()
-    ensures feedback { feedback_body deployment_word (record { id = codes "dev-01"; digest = [] }) 4
-        (codes "{\"status\":{\"execution\":\"closed\",\"result\":{\"finished\":\"success\"},\"details\":[\"done\"]}}")
+    ensures feedback { option_and_then (feedback_in deployment_word (record { id = codes "dev-01"; digest = [] }) 4)
+        (body_data (codes "{\"status\":{\"execution\":\"closed\",\"result\":{\"finished\":\"success\"},\"details\":[\"done\"]}}"))
         ≡ Some (record { credential = record { id = codes "dev-01"; digest = [] }; action = 4; word = Succeeded; details = codes "done" ∷ []; number = None }) }
-    ensures cancel_feedback { feedback_body cancel_word (record { id = codes "dev-01"; digest = [] }) 4
-        (codes "{\"number\":7,\"status\":{\"execution\":\"rejected\",\"result\":{\"finished\":\"none\"}}}")
+    ensures cancel_feedback { option_and_then (feedback_in cancel_word (record { id = codes "dev-01"; digest = [] }) 4)
+        (body_data (codes "{\"number\":7,\"status\":{\"execution\":\"rejected\",\"result\":{\"finished\":\"none\"}}}"))
         ≡ Some (record { credential = record { id = codes "dev-01"; digest = [] }; action = 4; word = RejectedCancel; details = []; number = Some 7 }) }
-    ensures config { config_body (codes "{\"mode\":\"merge\",\"data\":{\"os\":\"a\",\"hw\":\"2\",\"os\":\"b\"}}")
+    ensures config { option_and_then config_of (body_data (codes "{\"mode\":\"merge\",\"data\":{\"os\":\"a\",\"hw\":\"2\",\"os\":\"b\"}}"))
         ≡ Some (record { key = codes "hw"; value = codes "2" } ∷ record { key = codes "os"; value = codes "b" } ∷ []) }
 {}
 
@@ -120,8 +121,8 @@ pub fn letters()
 /// - `cancel`: the text of a cancel
 /// - `deployment`: the text of a deployment of one module with one artifact, whose digest is the same byte 32 times
 pub fn texts()
-    ensures refused { (refusal : Refusal) → reply_text (Refused refusal) ≡ refusal_text refusal }
-    ensures poll_reply { reply_text (PollShown (codes "dev-01") None)
+    ensures refused { (refusal : Refusal) → text_of (parts_of (Refused refusal)) ≡ refusal_text refusal }
+    ensures poll_reply { text_of (parts_of (PollShown (codes "dev-01") None))
         ≡ codes "HTTP/1.1 200 OK\r\nContent-Type: application/json\r\nContent-Length: 55\r\n\r\n{\"_links\":{},"
         ++ codes "\"config\":{\"polling\":{\"sleep\":\"00:05:00\"}}}" }
     ensures poll { compact_text (poll_data (codes "dev-01") None) ≡ codes "{\"_links\":{},\"config\":{\"polling\":{\"sleep\":\"00:05:00\"}}}" }

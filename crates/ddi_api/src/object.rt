@@ -8,7 +8,7 @@ ghost use Rattle.serde_json.specs.Written.{compact_text};
 ghost use Rattle.mgmt_objects.specs.ArtifactObjects.{hashes_data};
 ghost use Rattle.rollout_machine.specs.Views.{chunk, deployment};
 ghost use Rattle.ddi_api.specs.Letters.{offer_letters};
-ghost use Rattle.ddi_api.specs.Objects.{action_path, device_artifact_data, cancel_data, chunk_data, chunks_data, deployment_data, deployment_object};
+ghost use Rattle.ddi_api.specs.Objects.{action_path, device_artifact_data, cancel_data, chunk_data, deployment_data, deployment_object};
 ghost use Rattle.ddi_api.specs.Objects.{download_path, link_data, offer_kind, poll_data, shown_chunk};
 
 use artifact_pieces::digest_text;
@@ -245,16 +245,6 @@ fn chunk_values(
     Ok(values)
 }
 
-fn chunks_value(alloc: Global, chunks: Vec<Value>) -> Result<Value, AllocError>
-    ensures { IfOk result (λ v. view v ≡ chunks_data (map view chunks.items)) }
-{
-    json!(in alloc; {
-        "chunks": Value::Array(chunks),
-        "download": "forced",
-        "update": "forced",
-    })
-}
-
 fn deployment_object(
     alloc: Global,
     action: ActionNo,
@@ -263,9 +253,12 @@ fn deployment_object(
     ensures { IfOk result (λ v. view v ≡ deployment_object action (map view chunks.items)) }
 {
     let number = number_text(alloc, action.get())?;
-    let chunks = chunks_value(alloc, chunks)?;
     json!(in alloc; {
-        "deployment": chunks,
+        "deployment": {
+            "chunks": Value::Array(chunks),
+            "download": "forced",
+            "update": "forced",
+        },
         "id": number.as_str(),
     })
 }

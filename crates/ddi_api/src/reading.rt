@@ -8,7 +8,7 @@ ghost use Rattle.rollout_machine.specs.Views.{request_of};
 ghost use Rattle.http_wire.specs.Inbox.{message_of};
 ghost use Rattle.mgmt_api.specs.Reading.{TakesNoQuery, item_in, or_rejected};
 ghost use Rattle.ddi_api.specs.Credentials.{credential_of};
-ghost use Rattle.ddi_api.specs.Reading.{ReadsRequest, asked_by_device, asked_of, device_reading};
+ghost use Rattle.ddi_api.specs.Reading.{ReadsRequest, asked_by_device, device_reading};
 ghost use Rattle.http_wire.specs.Targets.{path_of};
 ghost use Rattle.request_target.specs.Routes.{segments};
 ghost use Rattle.rollout_model.specs.Rules.{is_filename, kept_if};
@@ -192,23 +192,17 @@ fn has_method(call: DeviceCall, message: &Message<'_>) -> bool
     message.method == method_of(call)
 }
 
-fn read_of(alloc: Global, call: DeviceCall, message: &Message<'_>) -> Result<Request, Refusal>
-    ensures { ReadsRequest (asked_of call (message_of message.now)) result }
-{
-    if has_method(call, message) {
-        read_by_one(alloc, call, message)
-    } else {
-        Err(Refusal::BadMethod)
-    }
-}
-
 fn read_routed(routes: &DeviceRoutes, message: &Message<'_>) -> Result<Request, Refusal>
     ensures { ReadsRequest (device_reading (message_of message.now)) result }
 {
     let Some(call) = routes.find(message.path()) else {
         return Err(Refusal::NotFound);
     };
-    read_of(routes.alloc(), call, message)
+    if has_method(call, message) {
+        read_by_one(routes.alloc(), call, message)
+    } else {
+        Err(Refusal::BadMethod)
+    }
 }
 
 /// The request that a device's message asks.

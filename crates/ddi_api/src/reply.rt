@@ -6,7 +6,8 @@ ghost use Rattle.rollout_machine.specs.Replies.{Done, Refused};
 ghost use Rattle.rollout_machine.specs.Views.{reply_of};
 ghost use Rattle.http_wire.specs.Replies.{answer_text};
 ghost use Rattle.mgmt_api.specs.Replies.{Has, file_reply, json_reply};
-ghost use Rattle.ddi_api.specs.Replies.{parts_of, reply_text};
+ghost use Rattle.ddi_api.specs.Replies.{parts_of};
+ghost use Rattle.mgmt_api.specs.Replies.{text_of};
 
 use crate::object::{cancel_text, deployment_text, poll_text};
 use http::StatusCode;
@@ -76,7 +77,7 @@ fn answer_of(alloc: Global, reply: &Reply) -> Result<Answer, Refusal>
 /// Status, content type and body of a reply to a device. Refused for want of memory alone.
 pub fn device_reply(alloc: Global, reply: &Reply) -> Result<Answer, Refusal>
     ensures parts { IfOk result (Has (parts_of (reply_of reply.now))) }
-    ensures text { IfOk result (λ answer. (parts_of (reply_of reply.now)).ends ≡ false → answer_text answer ≡ reply_text (reply_of reply.now)) }
+    ensures text { IfOk result (λ answer. (parts_of (reply_of reply.now)).ends ≡ false → answer_text answer ≡ text_of (parts_of (reply_of reply.now))) }
     ensures memory { IfErr result (λ e. e ≡ NoMemory) }
 {
     answer_of(alloc, reply)

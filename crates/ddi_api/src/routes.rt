@@ -2,7 +2,7 @@
 
 ghost use Rattle.std.specs.Prelude.{◌≡◌, IfOk, IfErr};
 ghost use Rattle.rollout_model.specs.declared.refusal.Refusal.TheVariants.{NoMemory};
-ghost use Rattle.ddi_api.specs.Routes.{device_rows};
+ghost use Rattle.ddi_api.specs.Routes.{device_rows, device_table};
 
 use crate::call::DeviceCall;
 use matchit::Router;
@@ -55,7 +55,7 @@ fn device_router(alloc: Global) -> Result<Router<DeviceCall>, AllocError>
 }
 
 impl DeviceRoutes {
-    ghost use Rattle.ddi_api.specs.Table.{device_call};
+    ghost use Rattle.request_target.specs.Routes.{route_of};
 
     /// All routes. Refused for want of memory alone.
     pub fn make(alloc: Global) -> Result<DeviceRoutes, Refusal>
@@ -67,7 +67,7 @@ impl DeviceRoutes {
 
     /// The call whose route the path is, compared segment by segment and as it is written.
     pub fn find(&self, path: &[u8]) -> Option<DeviceCall>
-        ensures { result ≡ device_call path.now }
+        ensures { result ≡ route_of device_table path.now }
     {
         match str::from_utf8(path) {
             Ok(path) => route_of(&self.router, path),

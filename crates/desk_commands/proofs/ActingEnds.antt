@@ -9,13 +9,14 @@ use Rattle.desk_commands.proofs.Common.{StaysOpen, Ends, Tally, tally_of, number
 use Rattle.desk_commands.proofs.Common.{in_place_of, reoffered, subst, with_rollouts, next_offer, actor, offers_before_start, with_actor, Acts, FollowsChange}
 use Rattle.desk_commands.proofs.Common.{FollowsSo, StartsIf, change_numbered, with_outcome, Reoffers, with_rollout, started, MayReoffer, action_view_seen}
 use Rattle.desk_commands.proofs.Common.{CountsNumbers, TellsReports, entries_by, numbers_by, tally_by, with_reports, Told, SeenAction, Following}
-use Rattle.desk_commands.specs.ActionSteps.{with_changed_action}
+use Rattle.desk_commands.specs.private.ActionSteps.{with_changed_action}
 use Rattle.std.proofs.lemmas.List.Elements.{filter-append}
 use Rattle.campaign_core.specs.declared.own_group.Following.TheVariants as so
 use Rattle.rollout_machine.specs.GroupOffers.{acted as acted_records}
 use Rattle.desk_records.proofs.NumberLists.{numbers_more}
 use Rattle.desk_commands.proofs.GroupNumbers.{Numbered, numbered_groups, only_at, set_numbered_still, started_one, starts_none}
 use Rattle.desk_commands.proofs.ItemSteps.{map_set, same_but_for, set_elsewhere, set_is_change, set_is_there, set_twice, zip_map}
+use Rattle.rollout_machine.specs.Verdicts.{says_note}
 use Rattle.desk_commands.proofs.KnownActions.{IsPlaced, seen_at, started_is}
 use Rattle.desk_commands.proofs.OfferingLemmas.{AllTell, all_tell, is_offerable, offer_moves, offer_stays}
 use Rattle.desk_commands.proofs.LedgerEnds.{FollowsRecords, ends_with_none, sets_alone, starts_last, starts_of, then_started}
@@ -25,12 +26,12 @@ use Rattle.desk_commands.proofs.LedgerEnds.{FollowsRecords, ends_with_none, sets
 same_history : (after : ActionChange) (a : ActionRecord) → (action_with after a).history ≡ a.history
 same_history after a = grind arith
 
-notes_grow : (entry : HistoryEntry) (b : Bool) → b ≡ is_note entry → length (filter is_note (entry ∷ [])) ≡ cond b 1 0
+notes_grow : (entry : HistoryEntry) (b : Bool) → b ≡ is_note entry → length (filter (λ (entry : HistoryEntry). says_note entry.said) (entry ∷ [])) ≡ cond b 1 0
 notes_grow entry b is = elim (cases_Bool (is_note entry)) [ inl note ↦ rw (is, note) refl | inr other ↦ rw (is, other) refl ]
 
 -- of a history
 abbrev tally_in : List Reported → Tally
-tally_in hs = record { notes = length (filter is_note (entries_in hs)); entries = length hs }
+tally_in hs = record { notes = length (filter (λ (entry : HistoryEntry). says_note entry.said) (entries_in hs)); entries = length hs }
 
 tally_grows : (reports : List Reported) (told : Option Told) (hs : List Reported) → TellsReports reports told → tally_in (hs ++ reports)
     ≡ tally_by told (tally_in hs)

@@ -9,7 +9,7 @@ use Rattle.std.proofs.lemmas.Bool.{not-false}
 use Rattle.rollout_machine.specs.Verdicts.{target_keys as keys_there}
 use Rattle.rollout_model.specs.Pairs.{is_same_attribute}
 use Rattle.desk_records.proofs.Attributes.{attributes_sorted, keys_with}
-use Rattle.desk_commands.specs.Attributes.{ViewsAttributes}
+use Rattle.desk_commands.specs.private.Attributes.{ViewsAttributes}
 use Rattle.campaign_core.proofs.CheckLemmas.{first_passes}
 use Rattle.campaign_core.specs.Checks.{IsAttributesView, attributes_refusal}
 use Rattle.campaign_core.specs.declared.checks.targets.AttributesView.{AttributesView}

@@ -27,7 +27,7 @@ pub use Rattle.rollout_machine.proofs.Lists.{each_from_more, length_each, number
 pub use Rattle.rollout_machine.proofs.Main.{records_step}
 pub use Rattle.rollout_machine.proofs.TargetTies.{has_sorted, has_with, has_without, same_pointwise, same_refl, same_sym, same_true}
 pub use Rattle.rollout_machine.proofs.WithinLimits.{limits_hold}
-pub use Rattle.rollout_machine.specs.Answers.{added_artifact, command_reply}
+pub use Rattle.rollout_machine.specs.Answers.{command_reply}
 pub use Rattle.rollout_machine.specs.ByteStrings.{contains_word, item_numbered, same_bytes, sorted_words, with_word, with_words, without_word}
 pub use Rattle.rollout_machine.specs.CommandList.{CommandList, ◌▸◌}
 pub use Rattle.rollout_machine.specs.CommandRules.{IsWellFormed}
@@ -39,15 +39,15 @@ pub use Rattle.rollout_machine.specs.Offers.{Offer, first_offer, offer}
 pub use Rattle.rollout_machine.specs.Ranges.{each_from}
 pub use Rattle.rollout_machine.specs.RecordSteps.{begin_rollout, change_rollout, change_target, counted, last_started, new_action, new_actions, new_group}
 pub use Rattle.rollout_machine.specs.RecordSteps.{new_rollout, new_target, put_target, put_targets, resumed, start_group, step_records, triggered, view_of}
-pub use Rattle.rollout_machine.specs.Records.{ArtifactRecord, Records, action_in, artifact_from, group_in, records, rollout_in, rollouts_in}
+pub use Rattle.rollout_machine.specs.Records.{ArtifactRecord, Records, action_in, artifact_from, group_in, records, rollout_in}
 pub use Rattle.rollout_machine.specs.Replies.{ArtifactAdded, Done}
 pub use Rattle.rollout_machine.specs.Reports.{HistoryEntry, Reported, against, entries_in, same_entry, standing_of}
-pub use Rattle.rollout_machine.specs.Rollouts.{Rollout, bounds_at, chosen, last_of, rollouts, size_of}
-pub use Rattle.rollout_machine.specs.StateWords.{RolloutWord, group_holding, group_is_started, group_number_of, group_numbered, has_started, is_for}
-pub use Rattle.rollout_machine.specs.StateWords.{is_started_in, number_of_group, rollout_word}
+pub use Rattle.rollout_machine.specs.Rollouts.{Rollout, chosen, last_of, rollouts, size_of}
+pub use Rattle.rollout_machine.specs.StateWords.{RolloutWord, group_holding, group_number_of, group_numbered, has_started, is_for}
+pub use Rattle.rollout_machine.specs.StateWords.{rollout_word}
 pub use Rattle.rollout_machine.specs.Targets.{Target, with_attribute, with_attributes}
 pub use Rattle.rollout_machine.specs.Validity.{IsValid}
-pub use Rattle.rollout_machine.specs.Verdicts.{check, is_named_by_set, is_note, notes_of, tags_of, target_of, wrong_digest}
+pub use Rattle.rollout_machine.specs.Verdicts.{check, is_named_by_set, notes_of, tags_of, target_of, wrong_digest}
 pub use Rattle.rollout_machine.specs.Views.{reply_of}
 pub use Rattle.rollout_machine.specs.declared.bounds.Bounds.{Bounds}
 pub use Rattle.rollout_machine.specs.declared.outcome.Outcome.{Outcome}
@@ -104,29 +104,32 @@ pub use Rattle.desk_reads.specs.AtLists.{AreOfList, FailsAtListsIn, IsOfList}
 pub use Rattle.desk_reads.specs.Rollouts.{IsSeenOf}
 pub use Rattle.desk_reads.specs.Targets.{target_listed}
 pub use Rattle.desk_reads.specs.declared.rollouts.SeenRollout.{SeenRollout}
-pub use Rattle.desk_commands.specs.ActionSteps.{Acts, TellsAction, WritesFeedback, canceling_by, outcome_by, stays_offered}
-pub use Rattle.desk_commands.specs.Additions.{AddsArtifact, AddsContents, AddsModules, AddsWhole, LacksModule}
-pub use Rattle.desk_commands.specs.Attributes.{GivesAttribute, GivesAttributes, attributed_with, has_attribute, keys_after}
-pub use Rattle.desk_commands.specs.Counts.{HasRoom}
-pub use Rattle.desk_commands.specs.Creations.{CreatesRollout, IsChosen, IsWordOf, and_rollout, in_part, shown_new}
-pub use Rattle.desk_commands.specs.Endings.{FollowsChange, FollowsSo, outcomes_in, with_outcome, with_rollout}
+pub use Rattle.desk_commands.specs.private.ActionSteps.{Acts, TellsAction, WritesFeedback, canceling_by, outcome_by, stays_offered}
+pub use Rattle.desk_commands.specs.private.Additions.{AddsArtifact, AddsContents, AddsModules, AddsWhole, LacksModule}
+pub use Rattle.desk_commands.specs.private.Attributes.{GivesAttribute, GivesAttributes, attributed_with, has_attribute, keys_after}
+pub use Rattle.desk_commands.specs.private.Counts.{HasRoom}
+pub use Rattle.desk_commands.specs.private.Creations.{CreatesRollout, IsChosen, IsWordOf, and_rollout, in_part, shown_new}
+pub use Rattle.desk_commands.specs.private.Endings.{FollowsChange, FollowsSo, outcomes_in, with_outcome, with_rollout}
 pub use Rattle.desk_commands.specs.Failures.{FailsWriting, IsActionOf, IsLastOf, IsSeenFrom, IsSeenIn, Leads}
 pub use Rattle.desk_commands.specs.Failures.{TakesRow, TakesRows, TakesSteps}
-pub use Rattle.desk_commands.specs.GroupStarts.{StartsAndOffers, StartsIf, started, with_group}
-pub use Rattle.desk_commands.specs.GroupViews.{EndsBeyond, view_by}
-pub use Rattle.desk_commands.specs.Imports.{AddsTags, DropsTags, HasCounted, IsTooMany, PutsAll, PutsOver, PutsRow, PutsRows, Renames, Retags, lacking}
-pub use Rattle.desk_commands.specs.Imports.{retagged, tagged_with, untagged_from, with_row, without_words}
-pub use Rattle.desk_commands.specs.Offering.{MayReoffer, Reoffers}
-pub use Rattle.desk_commands.specs.SeenActions.{IsSeen, MaySee, SeesFeedback, SeesIn, SeesTarget, action_seen, action_view_seen, cancel_view_seen}
-pub use Rattle.desk_commands.specs.SeenActions.{device_action_seen, only_of, only_started, seen_if}
-pub use Rattle.desk_commands.specs.SeenReports.{StandsAgainst, StandsAmong, StandsAt, asked, more_reads, reads_for, with_number}
-pub use Rattle.desk_commands.specs.Standings.{GoesOn, IsSeenAt, WritesSaid, approval_after, gone_by, pause_left, paused_after, command_said}
-pub use Rattle.desk_commands.specs.Standings.{starts_by}
-pub use Rattle.desk_commands.specs.Starts.{StartsWhole}
+pub use Rattle.desk_commands.specs.private.GroupStarts.{StartsAndOffers, StartsIf, started, with_group}
+pub use Rattle.desk_commands.specs.private.GroupViews.{EndsBeyond, view_by}
+pub use Rattle.desk_commands.specs.private.Imports.{AddsTags, DropsTags, HasCounted, IsTooMany, PutsAll, PutsOver, PutsRow, PutsRows, Renames, Retags, lacking}
+pub use Rattle.desk_commands.specs.private.Imports.{retagged, tagged_with, untagged_from, with_row, without_words}
+pub use Rattle.desk_commands.specs.private.Offering.{MayReoffer, Reoffers}
+pub use Rattle.desk_commands.specs.private.SeenActions.{IsSeen, MaySee, SeesFeedback, SeesIn, SeesTarget, action_seen, action_view_seen, cancel_view_seen}
+pub use Rattle.desk_commands.specs.private.SeenActions.{device_action_seen, only_of, only_started, seen_if}
+pub use Rattle.desk_commands.specs.private.SeenReports.{StandsAgainst, StandsAmong, StandsAt, asked, more_reads, reads_for, with_number}
+pub use Rattle.desk_commands.specs.private.Standings.{GoesOn, IsSeenAt, WritesSaid, approval_after, gone_by, pause_left, paused_after, command_said}
+pub use Rattle.desk_commands.specs.private.Standings.{starts_by}
+pub use Rattle.desk_commands.specs.private.Starts.{StartsWhole}
 pub use Rattle.desk_records.specs.LedgerSteps.{and_actions, new_for}
-pub use Rattle.desk_commands.specs.Telling.{CountsNumbers, TellsReports, WritesNumber, WritesTold, entries_by, if_numbered, notes_by, numbers_by, tally_by}
-pub use Rattle.desk_commands.specs.Telling.{with_reports}
+pub use Rattle.desk_commands.specs.private.Telling.{CountsNumbers, TellsReports, WritesNumber, WritesTold, entries_by, if_numbered, notes_by, numbers_by}
+pub use Rattle.desk_commands.specs.private.Telling.{tally_by}
+pub use Rattle.desk_commands.specs.private.Telling.{with_reports}
 pub use Rattle.desk_commands.specs.declared.seen_actions.SeenAction.{SeenAction}
 pub use Rattle.desk_commands.specs.declared.seen_actions.SeenFeedback.{SeenFeedback}
 pub use Rattle.desk_commands.specs.declared.telling.Told.{Told}
 pub use Rattle.desk_store.proofs.ActionCalls.{kept_to}
+pub use Rattle.rollout_machine.proofs.Words.{added_artifact, group_is_started, is_note, is_started_in, number_of_group, rollouts_in}
+pub use Rattle.rollout_machine.specs.Groupings.{bounds_by}

@@ -3,7 +3,7 @@ use Rattle.desk_commands.proofs.Common.{◌≡◌, ◌<◌, ℕ, zero, suc, ◌+
 use Rattle.desk_commands.proofs.Common.{set, slice_get, Some, None, refl, sym, ap, subst, ◌∙◌, arith, list_all, and_parts, nat_tests, length-append}
 use Rattle.desk_commands.proofs.Common.{length-map, length-take-le, map-append, command_reply, item_numbered, CommandList, Bytes, CreateRollout}
 use Rattle.desk_commands.proofs.Common.{RolloutPlan, GroupRule, rule_at, rules_of, first_offer, Records, action_in, rollouts_in, new_group, new_rollout}
-use Rattle.desk_commands.proofs.Common.{step_records, bounds_at, chosen, rollouts, RolloutWord, IsValid, check, reply_of, Bounds, ActionRecord}
+use Rattle.desk_commands.proofs.Common.{step_records, chosen, rollouts, RolloutWord, IsValid, check, reply_of, Bounds, ActionRecord}
 use Rattle.desk_commands.proofs.Common.{RolloutRecord, each_from_more, length_each, numbered_each, filter_of, IsPlanView, approval_at, plan_refusal}
 use Rattle.desk_commands.proofs.Common.{Ledger, ledger_of, AddsGroup, AddsMembers, AddsRule, cut_group, set_numbered, with_rollouts, with_rules}
 use Rattle.desk_commands.proofs.Common.{same_ledger, CreatesRollout, IsChosen, IsWordOf, and_rollout}
@@ -62,8 +62,8 @@ module _ (n : NewRollout) (plan : RolloutPlan) (size : ℕ) where
   one_group cuts are k d below l next h =
       let was = in_part n plan size k [] in
       let there = ap (λ bs. slice_get bs k) (sym are) ∙ slice_get-get_or cuts k d (within plan size cuts are k below) in
-      let its : get_or cuts k d ≡ bounds_at plan size (k + 1) =
-      (numbered_each (bounds_by plan.groups size) plan.groups.count (suc k) (get_or cuts k d) there).2 ∙ ap (bounds_at plan size) (omega arith) in (
+      let its : get_or cuts k d ≡ bounds_by plan.groups size (k + 1) =
+      (numbered_each (bounds_by plan.groups size) plan.groups.count (suc k) (get_or cuts k d) there).2 ∙ ap (bounds_by plan.groups size) (omega arith) in (
         and_rollout was (first_rules plan k) l,
         record { number_is = h.number_is; ruled = h.ruled; unacted = h.unacted; next_is = refl },
         record {

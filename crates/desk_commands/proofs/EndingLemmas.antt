@@ -3,7 +3,7 @@ use Rattle.desk_commands.proofs.Common.{arith, ◌≡◌, eq-eqb, refl, counted,
 use Rattle.desk_commands.proofs.Common.{with_outcome, with_rollout}
 use Rattle.desk_records.specs.LedgerSteps.{group_counted as set_counts}
 use Rattle.campaign_core.specs.declared.rollout_checks.actions.Ending.{Ending}
-use Rattle.desk_commands.specs.Endings.{FollowsEnding}
+use Rattle.desk_commands.specs.private.Endings.{FollowsEnding}
 
 -- ---- the counts
 

@@ -1,5 +1,5 @@
 -- An action that was seen in the tables of a list of accepted commands, and the views of it.
-use Rattle.desk_commands.proofs.Common.{arith, ◌≡◌, ◌+◌, ℕ, Bool, true, cond, List, Option, Some, None, option_map, sym, ap, ◌∙◌, subst, is_some, is_none}
+use Rattle.desk_commands.proofs.Common.{arith, ◌≡◌, ◌+◌, ℕ, Bool, true, cond, List, Option, Some, None, option_map, sym, ap, ◌∙◌, refl, subst, is_some, is_none}
 use Rattle.desk_commands.proofs.Common.{item_numbered, CommandList, Bytes, Credential, rule_at, Records, action_in, records, rollout_in, Reported, standing_of}
 use Rattle.desk_commands.proofs.Common.{Standing, group_holding, group_is_started, group_number_of, group_numbered, has_started, is_started_in, number_of_group}
 use Rattle.desk_commands.proofs.Common.{IsValid, target_of, ActionRecord, GroupRecord, RolloutRecord, BothOrNone, IsActionView, IsCancelView, IsFeedbackView}
@@ -128,7 +128,9 @@ module _ (h : CommandList) (valid : IsValid h) (k : ℕ) where
   module _ (device : Credential) (new : Reported) (seen : SeenFeedback) (w : SeesFeedback device k new (records h) seen) where
     -- what an open action has heard, all of the report is seen among
     pub heard_whole : (s : SeenAction) → seen.action ≡ Some s → s.action.outcome ≡ None → StandsAt k new (records h) seen.report
-    heard_whole s is open_still = grind (arith, asked_whole)
+    heard_whole s is open_still =
+        subst (λ n. StandsAt k n (records h) seen.report) (asked_whole new seen.action s is open_still)
+        (w.report (record { list = h; valid = valid; are = refl }))
 
     abbrev Viewed : Option SeenAction → Type 0
     Viewed action = BothOrNone (λ v a. IsDeviceAction v a new (records h)) (option_map (device_action_seen seen.report.standing) action)

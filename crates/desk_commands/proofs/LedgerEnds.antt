@@ -8,7 +8,7 @@ use Rattle.desk_commands.proofs.Common.{set_numbered, with_groups, with_rollouts
 use Rattle.rollout_machine.specs.Records.{records}
 use Rattle.campaign_core.proofs.RolloutLemmas.{rollouts_changed}
 use Rattle.rollout_machine.proofs.OfferStarts.{offers_after_group, offers_after_no_group}
-use Rattle.desk_commands.specs.GroupStarts.{with_offers}
+use Rattle.desk_commands.specs.private.GroupStarts.{with_offers}
 use Rattle.desk_commands.proofs.ItemSteps.{same_but_for, set_is_change, set_is_there, set_twice}
 
 -- ---- the groups of a list stand at their numbers

@@ -9,7 +9,7 @@ use Rattle.desk_commands.proofs.Common.{invariant_of, of_rollout}
 use Rattle.std.proofs.Math.Dec.{eqb-suc-zero}
 use Rattle.std.specs.Prelude.{IsOkAnd}
 use Rattle.sql_calls.specs.declared.fault.Fault.TheVariants.{Broken}
-use Rattle.desk_commands.specs.Standings.{group_if}
+use Rattle.desk_commands.specs.private.Standings.{group_if}
 use Rattle.rollout_machine.proofs.Ties.{last_is}
 use Rattle.rollout_machine.specs.Effects.{IsLast}
 use Rattle.rollout_machine.specs.declared.view.GroupView.{GroupView}

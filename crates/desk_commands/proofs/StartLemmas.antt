@@ -5,11 +5,11 @@ use Rattle.desk_commands.proofs.Common.{each_from, Records, records, begin_rollo
 use Rattle.desk_commands.proofs.Common.{GroupRecord, RolloutRecord, records_are_sound, tally_of, numbers_of}
 use Rattle.desk_commands.proofs.Common.{ledger_of, scheduled, set_numbered, turned, with_rollouts, SeenRollout, started}
 use Rattle.desk_commands.proofs.Common.{StartsWhole, and_actions, new_for, never_started, of_rollout}
-use Rattle.rollout_machine.specs.Actions.{places_from}
 use Rattle.desk_commands.proofs.GroupNumbers.{group_there, numbered_groups, started_one}
 use Rattle.desk_commands.proofs.ItemSteps.{set_is_there, zip_own}
 use Rattle.desk_commands.proofs.LedgerEnds.{changed_at, starts_last, then_started}
 use Rattle.desk_commands.proofs.StandingLemmas.{Found, is_numbered}
+use Rattle.rollout_machine.proofs.Words.{places_from}
 
 -- ---- the first group
 

@@ -4,9 +4,9 @@ use Rattle.desk_commands.proofs.Common.{ActionRecord, action_with, ActionChange,
 use Rattle.desk_commands.proofs.Common.{with_actions, with_numbers, StoredAction, TellsAction, canceling_by, outcome_by, TellsReports, WritesNumber, WritesTold}
 use Rattle.desk_commands.proofs.Common.{entries_by, notes_by, numbers_by, tally_by, with_reports, SeenAction, Told}
 use Rattle.desk_records.specs.LedgerSteps.{action_turned}
-use Rattle.desk_commands.specs.Counts.{counts_after}
-use Rattle.desk_commands.specs.Endings.{own_after}
-use Rattle.desk_commands.specs.Telling.{numbers_told}
+use Rattle.desk_commands.specs.private.Counts.{counts_after}
+use Rattle.desk_commands.specs.private.Endings.{own_after}
+use Rattle.desk_commands.specs.private.Telling.{numbers_told}
 use Rattle.desk_commands.specs.declared.counts.Counts.{Counts}
 use Rattle.desk_commands.proofs.ItemSteps.{set_same, set_twice, zip_at, zip_set}
 

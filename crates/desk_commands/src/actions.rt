@@ -1,18 +1,18 @@
 //! Feedback on actions, and the cancels of actions.
 
-ghost use Rattle.std.specs.Prelude.{◌≡◌, ◌+◌, cond, is_some, ◌≤◌};
+ghost use Rattle.std.specs.Prelude.{◌≡◌, ◌+◌, cond, is_some};
 ghost use Rattle.rollout_machine.specs.CommandRules.{IsWellFormed};
 ghost use Rattle.rollout_machine.specs.Reports.{reported};
 ghost use Rattle.rollout_machine.specs.Commands.{Cancel as CancelCommand, CancelFeedback, Feedback};
-ghost use Rattle.desk_commands.specs.ActionSteps.{Acts, TellsAction, WritesFeedback};
-ghost use Rattle.desk_commands.specs.ActionSteps.{canceling_by, outcome_by, stays_offered};
-ghost use Rattle.desk_commands.specs.Offering.{MayReoffer};
-ghost use Rattle.desk_commands.specs.Telling.{if_numbered, number_told};
+ghost use Rattle.desk_commands.specs.private.ActionSteps.{Acts, TellsAction, WritesFeedback};
+ghost use Rattle.desk_commands.specs.private.ActionSteps.{canceling_by, outcome_by, stays_offered};
+ghost use Rattle.desk_commands.specs.private.Offering.{MayReoffer};
+ghost use Rattle.desk_commands.specs.private.Telling.{if_numbered, number_told};
 ghost use Rattle.desk_commands.specs.Failures.{FailsStepIn, FailsWriting, Leads};
-ghost use Rattle.desk_store.specs.Counting.{AddsIn};
+ghost use Rattle.desk_store.specs.Counting.{AddsIn, RunsIn};
 ghost use Rattle.desk_store.specs.Changing.{MakesLedger, StaysIn};
 ghost use Rattle.desk_commands.specs.Changing.{StepsIn};
-ghost use Rattle.desk_commands.specs.Counts.{counts_after};
+ghost use Rattle.desk_commands.specs.private.Counts.{counts_after};
 ghost use Rattle.desk_store.specs.Failing.{FailsSeeing, AreActionsNumbered, WritesIn};
 
 use crate::counts::{Counts, counts_after};
@@ -210,7 +210,7 @@ pub(crate) fn cancel_action<S: Alter>(
     ensures steps { IsWellFormed (CancelCommand asked.now.target asked.now.action asked.now.force)
         → StepsIn S.Store change.old change.new (CancelCommand asked.now.target asked.now.action asked.now.force) result }
     ensures fails { IsWellFormed (CancelCommand asked.now.target asked.now.action asked.now.force) → FailsStepIn S.Store change.old change.new result }
-    ensures work { change.new.store.now.calls.work.statements ≤ change.old.store.now.calls.work.statements + 12 }
+    ensures work { RunsIn 12 change.old change.new }
 {
     let found = see_target(change, &asked.target, asked.action)?;
     let Some(seen) = found else {

@@ -6,7 +6,7 @@ ghost use Rattle.rollout_machine.specs.Digests.{digest_of};
 ghost use Rattle.rollout_machine.specs.Verdicts.{wrong_digest};
 ghost use Rattle.rollout_model.specs.Limits.{limits};
 ghost use Rattle.campaign_core.specs.Checks.{IsArtifactView};
-ghost use Rattle.desk_commands.specs.Additions.{AddsArtifact, AddsContents};
+ghost use Rattle.desk_commands.specs.private.Additions.{AddsArtifact, AddsContents};
 ghost use Rattle.desk_store.specs.Changing.{FindsIn, MakesIn, StaysIn};
 ghost use Rattle.desk_commands.specs.Changing.{StepsIn};
 ghost use Rattle.desk_reads.specs.AtLists.{FailsAtListsIn};

@@ -6,7 +6,7 @@ ghost use Rattle.std.specs.List.{list_any};
 ghost use Rattle.desk_records.specs.Targets.{in_byte_order, keys_of};
 ghost use Rattle.rollout_machine.specs.ByteStrings.{contains_word};
 ghost use Rattle.rollout_machine.specs.Commands.{Attribute, PutAttributes};
-ghost use Rattle.desk_commands.specs.Attributes.{GivesAttribute, GivesAttributes, ViewsAttributes, has_attribute, keys_after};
+ghost use Rattle.desk_commands.specs.private.Attributes.{GivesAttribute, GivesAttributes, ViewsAttributes, has_attribute, keys_after};
 ghost use Rattle.desk_store.specs.Changing.{MakesIn, StaysIn};
 ghost use Rattle.desk_commands.specs.Changing.{StepsIn};
 ghost use Rattle.desk_commands.specs.Failures.{FailsStepIn};

@@ -2,7 +2,7 @@
 
 ghost use Rattle.std.specs.Prelude.{◌≡◌, ◌+◌, cond, MatchResult};
 ghost use Rattle.sql_calls.specs.declared.fault.Fault.TheVariants.{Broken};
-ghost use Rattle.desk_commands.specs.Counts.{CountsTo, HasRoom, counts_after};
+ghost use Rattle.desk_commands.specs.private.Counts.{CountsTo, HasRoom, counts_after};
 
 use crate::endings::own_after;
 use crate::seen_actions::SeenAction;

@@ -6,7 +6,7 @@ ghost use Rattle.rollout_machine.specs.Commands.{CreateRollout};
 ghost use Rattle.rollout_machine.specs.GroupRules.{rules_of};
 ghost use Rattle.rollout_machine.specs.Groupings.{cut_by};
 ghost use Rattle.campaign_core.specs.RolloutChecks.{IsPlanView};
-ghost use Rattle.desk_commands.specs.Creations.{CreatesRollout, IsChosen, IsWordOf, in_part, shown_new};
+ghost use Rattle.desk_commands.specs.private.Creations.{CreatesRollout, IsChosen, IsWordOf, in_part, shown_new};
 ghost use Rattle.desk_records.specs.LedgerSteps.{AddsMembers};
 ghost use Rattle.desk_store.specs.Counting.{AddsIn};
 ghost use Rattle.desk_store.specs.Changing.{FindsIn, MakesLedger, StaysIn};

@@ -3,7 +3,7 @@
 ghost use Rattle.std.specs.Prelude.{◌≡◌, ◌≤◌, ◌+◌, ◌^◌, MatchResult};
 ghost use Rattle.sql_calls.specs.declared.fault.Fault.TheVariants.{Broken};
 ghost use Rattle.rollout_machine.specs.RecordSteps.{counted};
-ghost use Rattle.desk_commands.specs.Endings.{FollowsChange, FollowsSo, outcomes_after, outcomes_in, own_after};
+ghost use Rattle.desk_commands.specs.private.Endings.{FollowsChange, FollowsSo, outcomes_after, outcomes_in, own_after};
 ghost use Rattle.desk_store.specs.Counting.{AddsIn};
 ghost use Rattle.desk_store.specs.Changing.{MakesLedger};
 ghost use Rattle.desk_store.specs.Failing.{WritesIn};

@@ -2,8 +2,8 @@
 
 ghost use Rattle.std.specs.Prelude.{◌≡◌, MatchResult, Some};
 ghost use Rattle.sql_calls.specs.declared.fault.Fault.TheVariants.{Broken};
-ghost use Rattle.rollout_machine.specs.StateWords.{size_of_group};
-ghost use Rattle.desk_commands.specs.GroupViews.{EndsBeyond, view_by};
+ghost use Rattle.rollout_machine.specs.Groups.{size_of_bounds};
+ghost use Rattle.desk_commands.specs.private.GroupViews.{EndsBeyond, view_by};
 
 use crate::counts::one_more;
 use desk_store::Fault;
@@ -12,7 +12,7 @@ use rollout_model::GroupRule;
 
 /// How many members the group has. One that reaches beyond all numbers is `Broken`.
 fn size_of(group: &GroupRecord) -> Result<u32, Fault>
-    ensures { MatchResult result (λ size. size ≡ size_of_group group.now) (λ e. (e ≡ Broken) × EndsBeyond (Some group.now)) }
+    ensures { MatchResult result (λ size. size ≡ size_of_bounds group.now.bounds) (λ e. (e ≡ Broken) × EndsBeyond (Some group.now)) }
 {
     let end = one_more(group.bounds.last)?;
     Ok(end.saturating_sub(group.bounds.first))

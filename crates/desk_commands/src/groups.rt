@@ -1,7 +1,7 @@
 //! Groups of a rollout: starting one.
 
 ghost use Rattle.desk_store.specs.Counting.{AddsIn};
-ghost use Rattle.desk_commands.specs.GroupStarts.{StartsAndOffers, StartsIf};
+ghost use Rattle.desk_commands.specs.private.GroupStarts.{StartsAndOffers, StartsIf};
 ghost use Rattle.desk_store.specs.Changing.{MakesLedger};
 ghost use Rattle.desk_store.specs.Failing.{WritesIn};
 

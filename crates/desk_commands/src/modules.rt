@@ -1,9 +1,9 @@
 //! Software modules: adding one.
 
-ghost use Rattle.std.specs.Prelude.{◌≤◌, ◌+◌};
 ghost use Rattle.rollout_machine.specs.Commands.{AddModule};
 ghost use Rattle.campaign_core.specs.Checks.{IsModuleView};
 ghost use Rattle.desk_store.specs.Changing.{FindsIn, StaysIn};
+ghost use Rattle.desk_store.specs.Counting.{RunsIn};
 ghost use Rattle.desk_commands.specs.Changing.{StepsIn};
 ghost use Rattle.desk_reads.specs.AtLists.{FailsAtListsIn};
 ghost use Rattle.desk_commands.specs.Failures.{FailsStepIn};
@@ -23,7 +23,7 @@ fn read_view<S: Alter>(
     ensures stays { StaysIn S.Store change.old change.new result }
     ensures reads { FindsIn S.Store change.old change.new result (λ r view. IsModuleView view label.now r) }
     ensures fails { FailsAtListsIn S.Store change.old change.new result }
-    ensures work { change.new.store.now.calls.work.statements ≤ change.old.store.now.calls.work.statements + 2 }
+    ensures work { RunsIn 2 change.old change.new }
 {
     let same = change.read_same_module(label)?;
     let count = change.read_last_module()?;
@@ -39,7 +39,7 @@ pub(crate) fn add_module<S: Alter>(
     ensures stays { StaysIn S.Store change.old change.new result }
     ensures steps { StepsIn S.Store change.old change.new (AddModule label.now) result }
     ensures fails { FailsStepIn S.Store change.old change.new result }
-    ensures work { change.new.store.now.calls.work.statements ≤ change.old.store.now.calls.work.statements + 4 }
+    ensures work { RunsIn 4 change.old change.new }
 {
     let view = read_view(change, label)?;
     let number = match campaign_core::add_module(&view) {

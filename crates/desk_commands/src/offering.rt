@@ -1,6 +1,6 @@
 //! What a target is offered, looked up again.
 
-ghost use Rattle.desk_commands.specs.Offering.{Reoffers};
+ghost use Rattle.desk_commands.specs.private.Offering.{Reoffers};
 ghost use Rattle.desk_store.specs.Counting.{AddsIn};
 ghost use Rattle.desk_store.specs.Changing.{MakesLedger, StaysIn};
 ghost use Rattle.desk_store.specs.Failing.{FailsSeeing, AreActionsNumbered};

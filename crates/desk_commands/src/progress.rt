@@ -1,6 +1,6 @@
 //! How a rollout goes on: by a resume, and by a trigger of its next group.
 
-ghost use Rattle.std.specs.Prelude.{◌≡◌, ◌∷◌, Some, [], cond, nat_eq, not, ◌≤◌, ◌+◌};
+ghost use Rattle.std.specs.Prelude.{◌≡◌, ◌∷◌, Some, [], cond, nat_eq, not};
 ghost use Rattle.std.specs.List.{list_any};
 ghost use Rattle.rollout_machine.specs.ByteStrings.{item_numbered};
 ghost use Rattle.rollout_machine.specs.GroupRules.{rule_at};
@@ -8,9 +8,10 @@ ghost use Rattle.rollout_machine.specs.RecordSteps.{last_started, view_of};
 ghost use Rattle.rollout_machine.specs.declared.records.RolloutRecord.{RolloutRecord};
 ghost use Rattle.desk_reads.specs.AtLists.{FindsAtListsIn};
 ghost use Rattle.desk_reads.specs.Rollouts.{IsSeenOf};
-ghost use Rattle.desk_commands.specs.Standings.{GoesOn, JudgesGoing, gone_by, group_if, pause_left, starts_by};
+ghost use Rattle.desk_commands.specs.private.Standings.{GoesOn, JudgesGoing, gone_by, group_if, pause_left, starts_by};
 ghost use Rattle.desk_store.specs.Changing.{FindsIn, MakesLedger, StaysIn};
 ghost use Rattle.desk_commands.specs.Changing.{StepsIn};
+ghost use Rattle.desk_store.specs.Counting.{RunsIn};
 ghost use Rattle.desk_store.specs.Failing.{FailsGiven, WritesIn};
 ghost use Rattle.desk_commands.specs.Failures.{FailsStepIn, IsSeenFrom, IsSeenIn};
 
@@ -77,7 +78,7 @@ fn read_last_rule<S: Alter>(
     ensures reads { FindsIn S.Store change.old change.new result
         (λ r rule. (x : RolloutRecord) → item_numbered r.rollouts number ≡ Some x → IsSeenOf seen.now x → rule ≡ rule_at x.plan last) }
     ensures fails { FailsGiven S.Store (IsSeenFrom number seen.now last) change.old change.new result }
-    ensures work { change.new.store.now.calls.work.statements ≤ change.old.store.now.calls.work.statements + 1 }
+    ensures work { RunsIn 1 change.old change.new }
 {
     if last == 0 {
         return Ok(GroupRule::evenly(seen.plan.success, seen.plan.error));
@@ -96,7 +97,7 @@ fn read_view<S: Alter>(
     ensures reads { FindsAtListsIn S.Store change.old change.new result
         (λ now view. (x : RolloutRecord) → item_numbered now.rollouts number ≡ Some x → IsSeenOf seen.now x → view ≡ view_of x (last_started x.groups)) }
     ensures fails { FailsGiven S.Store (IsSeenIn number seen.now) change.old change.new result }
-    ensures work { change.new.store.now.calls.work.statements ≤ change.old.store.now.calls.work.statements + 1 }
+    ensures work { RunsIn 1 change.old change.new }
 {
     let started = last_started(&seen.groups);
     let rule = read_last_rule(change, number, seen, started)?;
@@ -177,7 +178,7 @@ fn write_going<S: Alter>(
 ) -> Result<(), Fault>
     ensures stays { WritesIn S.Store change.old change.new result }
     ensures writes { MakesLedger S.Store change.old change.new result (GoesOn number seen.now paused group.now) }
-    ensures work { change.new.store.now.calls.work.statements ≤ change.old.store.now.calls.work.statements + 3 }
+    ensures work { RunsIn 3 change.old change.new }
 {
     change.change_rollout(number, seen.approval, seen.started, paused)?;
     start_if(change, number, group)
@@ -192,7 +193,7 @@ pub(crate) fn go_on<S: Alter>(
     ensures stays { StaysIn S.Store change.old change.new result }
     ensures steps { StepsIn S.Store change.old change.new (gone_by going number) result }
     ensures fails { FailsStepIn S.Store change.old change.new result }
-    ensures work { change.new.store.now.calls.work.statements ≤ change.old.store.now.calls.work.statements + 6 }
+    ensures work { RunsIn 6 change.old change.new }
 {
     let found = read_seen_rollout(change, number)?;
     let Some(seen) = found else {

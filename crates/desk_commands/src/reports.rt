@@ -1,8 +1,9 @@
 //! How a report stands among what its action has heard, by its number.
 
 ghost use Rattle.std.specs.Prelude.{◌≡◌, ◌+◌, Some};
-ghost use Rattle.rollout_machine.specs.Reports.{reported, same_cancel, same_deployment, same_entry, same_note, same_said};
-ghost use Rattle.desk_commands.specs.SeenReports.{StandsAgainst, StandsApart, StandsAt, asked, more_reads, number_asked, reads_for, standing_in, with_number};
+ghost use Rattle.rollout_machine.specs.Reports.{reported, same_entry, same_note, same_said, OfDeployment, OfCancel};
+ghost use Rattle.desk_commands.specs.private.SeenReports.{StandsAgainst, StandsApart, StandsAt, asked, more_reads};
+ghost use Rattle.desk_commands.specs.private.SeenReports.{number_asked, reads_for, standing_in, with_number};
 ghost use Rattle.desk_reads.specs.AtLists.{FailsAtListsIn, FindsAtListsIn};
 ghost use Rattle.desk_store.specs.Failing.{FailsGiven};
 ghost use Rattle.desk_commands.specs.Failures.{IsLastOf};
@@ -38,7 +39,7 @@ fn same_note(a: NoteWord, b: NoteWord) -> bool
 }
 
 fn same_deployment(a: DeploymentWord, b: DeploymentWord) -> bool
-    ensures { result ≡ same_deployment a b }
+    ensures { result ≡ same_said (OfDeployment a) (OfDeployment b) }
 {
     match (a, b) {
         (DeploymentWord::Succeeded, DeploymentWord::Succeeded) => true,
@@ -50,7 +51,7 @@ fn same_deployment(a: DeploymentWord, b: DeploymentWord) -> bool
 }
 
 fn same_cancel(a: CancelWord, b: CancelWord) -> bool
-    ensures { result ≡ same_cancel a b }
+    ensures { result ≡ same_said (OfCancel a) (OfCancel b) }
 {
     match (a, b) {
         (CancelWord::Closed, CancelWord::Closed) => true,

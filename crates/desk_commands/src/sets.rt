@@ -5,11 +5,12 @@ ghost use Rattle.rollout_model.specs.Rules.{is_module_list};
 ghost use Rattle.std.specs.List.{list_any};
 ghost use Rattle.rollout_machine.specs.Commands.{AddSet};
 ghost use Rattle.campaign_core.specs.Checks.{IsSetView};
-ghost use Rattle.desk_commands.specs.Additions.{AddsModules, AddsWhole, LacksModule};
+ghost use Rattle.desk_commands.specs.private.Additions.{AddsModules, AddsWhole, LacksModule};
 ghost use Rattle.desk_store.specs.Changing.{FindsIn, MakesIn, StaysIn};
 ghost use Rattle.desk_commands.specs.Changing.{StepsIn};
 ghost use Rattle.desk_reads.specs.AtLists.{FailsAtListsIn};
 ghost use Rattle.desk_commands.specs.Failures.{FailsStepIn};
+ghost use Rattle.desk_store.specs.Counting.{RunsIn};
 ghost use Rattle.desk_store.specs.Failing.{WritesIn};
 
 use crate::step::Step;
@@ -35,7 +36,7 @@ fn lacks_a_module<S: Alter>(
     ensures stays { StaysIn S.Store change.old change.new result }
     ensures reads { FindsIn S.Store change.old change.new result (LacksModule modules.now) }
     ensures fails { FailsAtListsIn S.Store change.old change.new result }
-    ensures work { change.new.store.now.calls.work.statements ≤ change.old.store.now.calls.work.statements + 1 }
+    ensures work { RunsIn 1 change.old change.new }
 {
     let last = change.read_last_module()?;
     Ok(any_past(modules, last))
@@ -46,7 +47,7 @@ fn read_view<S: Alter>(change: &mut OpenChange<'_, S>, label: &SetLabel) -> Resu
     ensures stays { StaysIn S.Store change.old change.new result }
     ensures reads { FindsIn S.Store change.old change.new result (λ r view. IsSetView view label.now r) }
     ensures fails { FailsAtListsIn S.Store change.old change.new result }
-    ensures work { change.new.store.now.calls.work.statements ≤ change.old.store.now.calls.work.statements + 3 }
+    ensures work { RunsIn 3 change.old change.new }
 {
     let misses_module = lacks_a_module(change, &label.modules)?;
     let same = change.read_same_set(&label.name, &label.version)?;
@@ -68,7 +69,7 @@ fn write_modules<S: Alter>(
     requires { before + length modules.now ≤ 8 }
     ensures stays { WritesIn S.Store change.old change.new result }
     ensures writes { MakesIn S.Store change.old change.new result (AddsModules number before modules.now) }
-    ensures work { change.new.store.now.calls.work.statements ≤ change.old.store.now.calls.work.statements + length modules.now }
+    ensures work { RunsIn (length modules.now) change.old change.new }
 {
     match modules {
         [] => Ok(()),
@@ -87,7 +88,7 @@ fn write_whole<S: Alter>(
 ) -> Result<(), Fault>
     ensures stays { WritesIn S.Store change.old change.new result }
     ensures writes { MakesIn S.Store change.old change.new result (AddsWhole number label.now) }
-    ensures work { change.new.store.now.calls.work.statements ≤ change.old.store.now.calls.work.statements + (1 + length label.now.modules) }
+    ensures work { RunsIn (1 + length label.now.modules) change.old change.new }
 {
     change.write_set(number, &label.name, &label.version)?;
     write_modules(change, number, 0, label.modules.as_slice())
@@ -102,7 +103,7 @@ pub(crate) fn add_set<S: Alter>(
     ensures stays { StaysIn S.Store change.old change.new result }
     ensures steps { StepsIn S.Store change.old change.new (AddSet label.now) result }
     ensures fails { FailsStepIn S.Store change.old change.new result }
-    ensures work { change.new.store.now.calls.work.statements ≤ change.old.store.now.calls.work.statements + (4 + length label.now.modules) }
+    ensures work { RunsIn (4 + length label.now.modules) change.old change.new }
 {
     let view = read_view(change, label)?;
     let number = match campaign_core::add_set(&view) {

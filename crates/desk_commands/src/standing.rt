@@ -1,10 +1,11 @@
 //! What is said of a rollout as a whole: it is approved, denied or paused.
 
-ghost use Rattle.std.specs.Prelude.{◌≡◌, MatchResult, None, Some, ◌≤◌, ◌+◌};
-ghost use Rattle.desk_commands.specs.Standings.{JudgesCommand, WritesSaid, command_said};
+ghost use Rattle.std.specs.Prelude.{◌≡◌, MatchResult, None, Some};
+ghost use Rattle.desk_commands.specs.private.Standings.{JudgesCommand, WritesSaid, command_said};
 ghost use Rattle.desk_store.specs.Changing.{MakesLedger, StaysIn};
 ghost use Rattle.desk_commands.specs.Changing.{StepsIn};
 ghost use Rattle.desk_commands.specs.Failures.{FailsStepIn};
+ghost use Rattle.desk_store.specs.Counting.{RunsIn};
 ghost use Rattle.desk_store.specs.Failing.{WritesIn};
 
 use crate::step::Step;
@@ -58,7 +59,7 @@ fn write_said<S: Alter>(
 ) -> Result<(), Fault>
     ensures stays { WritesIn S.Store change.old change.new result }
     ensures writes { MakesLedger S.Store change.old change.new result (WritesSaid said number seen.now) }
-    ensures work { change.new.store.now.calls.work.statements ≤ change.old.store.now.calls.work.statements + 1 }
+    ensures work { RunsIn 1 change.old change.new }
 {
     match said {
         Said::Approved => {
@@ -80,7 +81,7 @@ pub(crate) fn say<S: Alter>(
     ensures stays { StaysIn S.Store change.old change.new result }
     ensures steps { StepsIn S.Store change.old change.new (command_said said number) result }
     ensures fails { FailsStepIn S.Store change.old change.new result }
-    ensures work { change.new.store.now.calls.work.statements ≤ change.old.store.now.calls.work.statements + 3 }
+    ensures work { RunsIn 3 change.old change.new }
 {
     let found = read_seen_rollout(change, number)?;
     let Some(seen) = found else {

@@ -4,12 +4,12 @@ ghost use Rattle.std.specs.Prelude.{◌≡◌, ◌≤◌, ◌<◌, ◌+◌, Matc
 ghost use Rattle.std.specs.Option.{ok_or};
 ghost use Rattle.sql_calls.specs.declared.fault.Fault.TheVariants.{Broken};
 ghost use Rattle.rollout_machine.specs.Commands.{Start};
-ghost use Rattle.desk_commands.specs.Standings.{JudgesCommand};
-ghost use Rattle.desk_commands.specs.Starts.{StartsWhole};
+ghost use Rattle.desk_commands.specs.private.Standings.{JudgesCommand};
+ghost use Rattle.desk_commands.specs.private.Starts.{StartsWhole};
 ghost use Rattle.desk_store.specs.Changing.{MakesLedger, StaysIn};
 ghost use Rattle.desk_commands.specs.Changing.{StepsIn};
 ghost use Rattle.desk_commands.specs.Failures.{FailsStepIn};
-ghost use Rattle.desk_store.specs.Counting.{AddsIn};
+ghost use Rattle.desk_store.specs.Counting.{AddsIn, RunsIn};
 ghost use Rattle.desk_store.specs.Failing.{WritesIn};
 
 use crate::groups::start_group;
@@ -77,7 +77,7 @@ pub(crate) fn start_rollout<S: Alter>(
     ensures stays { StaysIn S.Store change.old change.new result }
     ensures steps { StepsIn S.Store change.old change.new (Start number) result }
     ensures fails { FailsStepIn S.Store change.old change.new result }
-    ensures work { change.new.store.now.calls.work.statements ≤ change.old.store.now.calls.work.statements + 7 }
+    ensures work { RunsIn 7 change.old change.new }
 {
     let found = read_seen_rollout(change, number)?;
     let Some(seen) = found else {

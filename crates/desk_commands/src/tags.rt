@@ -1,10 +1,10 @@
 //! Tags: giving a target one, and taking it.
 
-ghost use Rattle.std.specs.Prelude.{◌≡◌, is_none, ◌≤◌, ◌+◌};
+ghost use Rattle.std.specs.Prelude.{◌≡◌, is_none};
 ghost use Rattle.rollout_machine.specs.Commands.{Tag, Untag};
 ghost use Rattle.rollout_machine.specs.Verdicts.{target_of};
 ghost use Rattle.campaign_core.specs.Checks.{IsTagView};
-ghost use Rattle.desk_store.specs.Counting.{AddsIn};
+ghost use Rattle.desk_store.specs.Counting.{AddsIn, RunsIn};
 ghost use Rattle.desk_store.specs.Changing.{FindsIn, StaysIn};
 ghost use Rattle.desk_reads.specs.AtLists.{FailsAtListsIn};
 ghost use Rattle.desk_commands.specs.Changing.{StepsIn};
@@ -39,7 +39,7 @@ fn read_view<S: Alter>(
     ensures stays { StaysIn S.Store change.old change.new result }
     ensures reads { FindsIn S.Store change.old change.new result (λ r view. IsTagView view id.now tag.now r) }
     ensures fails { FailsAtListsIn S.Store change.old change.new result }
-    ensures work { change.new.store.now.calls.work.statements ≤ change.old.store.now.calls.work.statements + 2 }
+    ensures work { RunsIn 2 change.old change.new }
 {
     let misses_target = lacks_target(change, id)?;
     let tags = change.read_target_tags(id)?;
@@ -59,7 +59,7 @@ pub(crate) fn tag_target<S: Alter>(
     ensures stays { StaysIn S.Store change.old change.new result }
     ensures steps { StepsIn S.Store change.old change.new (Tag id.now tag.now) result }
     ensures fails { FailsStepIn S.Store change.old change.new result }
-    ensures work { change.new.store.now.calls.work.statements ≤ change.old.store.now.calls.work.statements + 3 }
+    ensures work { RunsIn 3 change.old change.new }
 {
     let view = read_view(change, id, tag)?;
     match campaign_core::tag(&view) {
@@ -82,7 +82,7 @@ pub(crate) fn untag_target<S: Alter>(
     ensures stays { StaysIn S.Store change.old change.new result }
     ensures steps { StepsIn S.Store change.old change.new (Untag id.now tag.now) result }
     ensures fails { FailsStepIn S.Store change.old change.new result }
-    ensures work { change.new.store.now.calls.work.statements ≤ change.old.store.now.calls.work.statements + 2 }
+    ensures work { RunsIn 2 change.old change.new }
 {
     let misses_target = lacks_target(change, id)?;
     match campaign_core::untag(&UntagView { misses_target }) {

@@ -2,7 +2,7 @@
 
 ghost use Rattle.std.specs.Prelude.{◌≡◌, ◌<◌, None, Some, IfNone, IfSome, length};
 ghost use Rattle.rollout_machine.specs.Commands.{PutTargets};
-ghost use Rattle.desk_commands.specs.Imports.{AddsTags, CountsTargets, DropsTags, PutsAll, PutsOver, PutsRow, Renames, Retags};
+ghost use Rattle.desk_commands.specs.private.Imports.{AddsTags, CountsTargets, DropsTags, PutsAll, PutsOver, PutsRow, Renames, Retags};
 ghost use Rattle.desk_store.specs.Changing.{FindsIn, MakesIn, StaysIn, seen_in};
 ghost use Rattle.desk_commands.specs.Changing.{StepsIn};
 ghost use Rattle.desk_commands.specs.Failures.{ChangesRow, FailsStepIn, FailsWriting, FailsWritingIn, TakesRow, TakesRows};

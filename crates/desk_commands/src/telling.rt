@@ -1,8 +1,8 @@
 //! What is told of an action: its history's new entry, and the number that the entry bears.
 
 ghost use Rattle.std.specs.Prelude.{◌+◌};
-ghost use Rattle.desk_commands.specs.Counts.{CountsTo};
-ghost use Rattle.desk_commands.specs.Telling.{WritesNumber, WritesTold, entries_by, if_numbered, notes_by, number_told, numbers_told};
+ghost use Rattle.desk_commands.specs.private.Counts.{CountsTo};
+ghost use Rattle.desk_commands.specs.private.Telling.{WritesNumber, WritesTold, entries_by, if_numbered, notes_by, number_told, numbers_told};
 ghost use Rattle.desk_store.specs.Counting.{AddsIn};
 ghost use Rattle.desk_store.specs.Changing.{MakesLedger};
 ghost use Rattle.desk_store.specs.Failing.{WritesIn};

@@ -14,8 +14,9 @@ pub use Rattle.rollout_model.proofs.RuleLemmas.{both, spelled_is_utf8}
 pub use Rattle.rollout_model.specs.Rules.{are_distinct_words, is_between, is_spelled, is_text, is_text_letter, is_token, is_word, is_word_letter, kept_if}
 pub use Rattle.rollout_model.specs.Rules.{is_tag_list}
 pub use Rattle.rollout_model.specs.declared.target_row.TargetRow.{TargetRow}
-pub use Rattle.desk_files.specs.ImportSteps.{HasIds, Pushes, TakesRecord, has_id, if_new, row_behind}
-pub use Rattle.desk_files.specs.Imports.{distinct_rows, each_row, faulty_line, ids_of_rows, import_of, is_header, records_of, rows_of, targets_in_file}
-pub use Rattle.desk_files.specs.RecordReaders.{GivesRecords, GivesNext, known}
+pub use Rattle.desk_files.specs.private.ImportSteps.{HasIds, Pushes, TakesRecord, has_id, if_new, row_behind}
+pub use Rattle.desk_files.specs.Imports.{each_row, faulty_line, ids_of_rows, import_of, records_of, rows_of, targets_in_file, header}
+pub use Rattle.desk_files.specs.private.RecordReaders.{GivesRecords, GivesNext, known}
 pub use Rattle.desk_files.specs.TargetRecords.{Record, row_of, field_words}
 pub use Rattle.desk_files.specs.declared.imported_rows.ImportedRows.{ImportedRows}
+pub use Rattle.std.specs.Cmp.Lexicographic.{pointwise}

@@ -1,8 +1,9 @@
 -- What the records so far say of the whole import.
 use Rattle.desk_files.proofs.Common.{◌≡◌, ◌<◌, ◌≤◌, ◌+◌, ℕ, zero, suc, List, [], ◌∷◌, ◌++◌, length, take, Bool, true, false, Some, None, is_none, unwrap_or}
+use Rattle.desk_files.proofs.Common.{header, pointwise}
 use Rattle.desk_files.proofs.Common.{Ok, Err, Bor, refl, sym, ◌∙◌, ap, arith, add-zero, length-append, append_assoc, below_more, codes, nat_eq, ends_with}
 use Rattle.desk_files.proofs.Common.{find, range_with_len, true≢false, append-nil, Reader, are_distinct_words, TargetRow, each_row, faulty_line}
-use Rattle.desk_files.proofs.Common.{ids_of_rows, import_of, is_header, records_of, rows_of, targets_in_file, HasIds, Pushes, row_behind, GivesRecords}
+use Rattle.desk_files.proofs.Common.{ids_of_rows, import_of, records_of, rows_of, targets_in_file, HasIds, Pushes, row_behind, GivesRecords}
 use Rattle.desk_files.proofs.Common.{GivesNext, Record}
 use Rattle.desk_files.proofs.Common.{ImportedRows}
 use Rattle.desk_files.proofs.StepFacts.{rows_fault, rows_more}
@@ -13,7 +14,7 @@ pub record Imported (records : List Record) (rows : ImportedRows) (line : ℕ) (
   pub done : List Record
   pub more : List Record
   pub whole : records ≡ first ∷ (done ++ more)
-  pub header : is_header first ≡ true
+  pub header : pointwise (pointwise nat_eq) first header ≡ true
   pub gives : GivesRecords reader more
   pub taken : each_row done ≡ Some rows.rows
   pub distinct : are_distinct_words (ids_of_rows rows.rows) ≡ true
@@ -31,38 +32,40 @@ says bytes b told is = rw (sym told ∙ is) refl
 pub no_record : (records : List Record) (new : Reader (Bor (List ℕ))) (r : Record) → GivesNext records new false r → import_of records ≡ Err 1
 no_record records new r h = grind arith
 
-pub no_header : (records : List Record) (new : Reader (Bor (List ℕ))) (r : Record) → GivesNext records new true r → is_header r ≡ false → import_of records
+pub no_header : (records : List Record) (new : Reader (Bor (List ℕ))) (r : Record) → GivesNext records new true r → pointwise (pointwise nat_eq) r header
+    ≡ false → import_of records
     ≡ Err 1
 no_header records new r h other = grind arith
 
 only_one : (n : ℕ) → n < 2 → 1 ≤ n → n ≡ 1
 only_one n below least = omega arith
 
-pub begins : (records : List Record) (new : Reader (Bor (List ℕ))) (r : Record) (rows : ImportedRows) → GivesNext records new true r → is_header r ≡ true
+pub begins : (records : List Record) (new : Reader (Bor (List ℕ))) (r : Record) (rows : ImportedRows) → GivesNext records new true r
+    → pointwise (pointwise nat_eq) r header ≡ true
     → rows.rows ≡ [] → HasIds rows → Imported records rows 2 new
 begins [] new r rows h is none ids = absurd (true≢false h)
 begins (first ∷ rest) new r rows h is none ids =
-    let header : is_header first ≡ true = rw h.1 at is in
+    let named : pointwise (pointwise nat_eq) first header ≡ true = rw h.1 at is in
     record {
       first = first;
       done = [];
       more = rest;
       whole = refl;
-      header = header;
+      header = named;
       gives = h.2;
       taken = rw none refl;
       distinct = rw none refl;
       ids = ids;
       count = refl;
-      clean = λ n below least. rw (only_one n below least, header) refl;
+      clean = λ n below least. rw (only_one n below least, named) refl;
     }
 
 -- ---- the end
 
-rows_are : (first : Record) (done : List Record) (rows : List TargetRow) → is_header first ≡ true → each_row done ≡ Some rows
+rows_are : (first : Record) (done : List Record) (rows : List TargetRow) → pointwise (pointwise nat_eq) first header ≡ true → each_row done ≡ Some rows
     → are_distinct_words (ids_of_rows rows)
     ≡ true → rows_of (first ∷ done) ≡ Some rows
-rows_are first done rows header taken distinct = rw (header, taken, distinct) refl
+rows_are first done rows named taken distinct = rw (named, taken, distinct) refl
 
 nothing_more : (more : List Record) (new : Reader (Bor (List ℕ))) (r : Record) → GivesNext more new false r → more ≡ []
 nothing_more more new r h = grind arith

@@ -1,8 +1,9 @@
 -- How the rows and their ids go on by one record.
 use native.Mathlib.Omega.{arith}
 use Rattle.desk_files.proofs.Common.{◌≡◌, ◌&&◌, ◌||◌, ℕ, List, [], ◌∷◌, ◌++◌, Bool, true, false, not, cond, nat_eq, nat_cmp, Option, Some, None, option_map}
+use Rattle.desk_files.proofs.Common.{kept_if}
 use Rattle.desk_files.proofs.Common.{option_and_then, BTreeSet, refl, ◌∙◌, ap, list_any, map-append, list_any-append}
-use Rattle.desk_files.proofs.Common.{are_distinct_words, TargetRow, distinct_rows, each_row, ids_of_rows, HasIds, Pushes, TakesRecord, has_id, if_new}
+use Rattle.desk_files.proofs.Common.{are_distinct_words, TargetRow, each_row, ids_of_rows, HasIds, Pushes, TakesRecord, has_id, if_new}
 use Rattle.desk_files.proofs.Common.{row_behind}
 use Rattle.desk_files.proofs.Common.{Record, row_of, ImportedRows}
 use Rattle.std.specs.BTreeMap.{is_at}
@@ -111,11 +112,11 @@ old_id rows row e = by (has_id row.id rows) e
 
 -- a faulty record, whatever follows
 pub rows_fault : (done : List Record) (r : Record) (rest : List Record) (rows : List TargetRow) → each_row done ≡ Some rows → row_behind rows r ≡ None
-    → option_and_then distinct_rows (each_row (done ++ r ∷ rest)) ≡ None
+    → option_and_then (kept_if (λ (rows : List TargetRow). are_distinct_words (ids_of_rows rows))) (each_row (done ++ r ∷ rest)) ≡ None
 rows_fault done r rest rows so none = by (row_of r) (each_row rest) refl refl none
   where
     by : (o : Option TargetRow) (m : Option (List TargetRow)) → row_of r ≡ o → each_row rest ≡ m → option_and_then (if_new rows) o ≡ None
-        → option_and_then distinct_rows (each_row (done ++ r ∷ rest)) ≡ None
+        → option_and_then (kept_if (λ (rows : List TargetRow). are_distinct_words (ids_of_rows rows))) (each_row (done ++ r ∷ rest)) ≡ None
     by None m read others e = let no : each_row (r ∷ rest) ≡ None = rw read refl in rw (each_row-none done (r ∷ rest) no) refl
     by (Some row) None read others e = let no : each_row (r ∷ rest) ≡ None = rw (read, others) refl in rw (each_row-none done (r ∷ rest) no) refl
     by (Some row) (Some more) read others e =

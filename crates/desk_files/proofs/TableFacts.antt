@@ -1,13 +1,16 @@
 -- No field of a table of actions needs quotes.
-use Rattle.desk_files.proofs.Common.{◌≡◌, ◌<◌, ◌^◌, ◌+◌, ◌%◌, ℕ, List, [], ◌∷◌, true, false, All, codes, map, refl, ◌∙◌, arith, append_assoc}
+use Rattle.desk_files.proofs.Common.{◌≡◌, ◌<◌, ◌^◌, ◌+◌, ◌%◌, ◌++◌, ℕ, List, [], ◌∷◌, true, false, All, codes, map, take, get_or, length, refl, sym, ap, ◌∙◌}
+use Rattle.desk_files.proofs.Common.{arith, append_assoc, append-nil}
 use Rattle.desk_files.proofs.Common.{flat_map, list_all, list_any-append, is_word_letter}
 use Rattle.std.specs.Fmt.{decimal}
 use Rattle.std.proofs.lemmas.Fmt.{decimal_by_steps}
+use Rattle.std.proofs.lemmas.Grind.{flat_map-append}
+use Rattle.std.proofs.lemmas.List.{take_more}
 use Rattle.std.proofs.lemmas.List.Elements.{All-head, All-tail}
 use Rattle.std.proofs.lemmas.List.Splits.{join_with_byte-slice_split}
 use Rattle.csv.specs.Writing.{default_writer, needs_byte, fields_text, is_blank, needs_quotes, row_text}
 use Rattle.rollout_model.specs.declared.rollout.Action.{Action}
-use Rattle.desk_files.specs.ActionTables.{action_line}
+use Rattle.desk_files.specs.ActionTables.{action_line, table_text}
 use Rattle.desk_files.specs.Laws.{IsActionInRange, TablesAreCsv, TagsAreJoined, action_record, table_header}
 
 pub joined : TagsAreJoined
@@ -45,3 +48,16 @@ header_is_line = refl
 
 pub tables : TablesAreCsv
 tables actions are = grind (arith, header_is_line, rows_are_lines)
+
+more_pieces : {X : Type 0} (f : X → List ℕ) (xs : List X) (i : ℕ) (x : X) → i < length xs → x ≡ get_or xs i x
+    → flat_map f (take (i + 1) xs) ≡ flat_map f (take i xs) ++ f x
+more_pieces f xs i x below is =
+    ap (flat_map f) (take_more xs i x below) ∙ flat_map-append f (take i xs) (get_or xs i x ∷ [])
+    ∙ ap (λ t. flat_map f (take i xs) ++ t) (append-nil (f (get_or xs i x)) ∙ ap f (sym is))
+
+-- one more action is one more line
+pub table_text-more : (actions : List Action) (i : ℕ) (a : Action) → i < length actions → a ≡ get_or actions i a
+    → table_text (take (i + 1) actions) ≡ table_text (take i actions) ++ action_line a
+table_text-more actions i a below is =
+    ap (λ t. codes "action,controllerid,group,state\n" ++ t) (more_pieces action_line actions i a below is)
+    ∙ sym (append_assoc (codes "action,controllerid,group,state\n") (flat_map action_line (take i actions)) (action_line a))

@@ -1,11 +1,11 @@
 -- What a file of targets says: its rows, or the number of its first faulty record.
-use Rattle.std.specs.Prelude.{◌≡◌, ℕ, Bool, List, [], ◌∷◌, length, take, map, codes, nat_eq, Option, Some, None, is_none, unwrap_or, option_map}
+use Rattle.std.specs.Prelude.{◌≡◌, ℕ, List, [], ◌∷◌, length, take, map, codes, nat_eq, Option, Some, None, is_none, unwrap_or, option_map}
 use Rattle.std.specs.Prelude.{option_and_then, Result, Ok, Err, MatchResult, if◌then◌else◌, ⊤}
 use Rattle.std.specs.List.{ends_with, find, range_with_len}
 use Rattle.std.specs.Option.{ok_or}
 use Rattle.std.specs.Cmp.Lexicographic.{pointwise}
 use Rattle.csv.specs.Reading.{default_config, records, strip_bom}
-use Rattle.rollout_model.specs.Rules.{are_distinct_words}
+use Rattle.rollout_model.specs.Rules.{are_distinct_words, kept_if}
 use Rattle.rollout_model.specs.declared.refusal.Refusal.{Refusal}
 use Rattle.rollout_model.specs.declared.refusal.Refusal.TheVariants.{BadImportLine, NoMemory}
 use Rattle.rollout_model.specs.declared.target_row.TargetRow.{TargetRow}
@@ -20,9 +20,6 @@ records_of bytes = records default_config (strip_bom bytes)
 abbrev pub header : Record
 header = codes "controllerid" ∷ codes "name" ∷ codes "token" ∷ codes "tags" ∷ []
 
-abbrev pub is_header : Record → Bool
-is_header first = pointwise (pointwise nat_eq) first header
-
 -- the row of each record, where each has one
 abbrev pub each_row : List Record → Option (List TargetRow)
 each_row [] = Some []
@@ -31,14 +28,13 @@ each_row (r ∷ rs) = option_and_then (λ row. option_map (λ rows. row ∷ rows
 abbrev pub ids_of_rows : List TargetRow → List (List ℕ)
 ids_of_rows rows = map (λ (row : TargetRow). row.id) rows
 
--- the rows, where no two are of one id
-abbrev pub distinct_rows : List TargetRow → Option (List TargetRow)
-distinct_rows rows = if are_distinct_words (ids_of_rows rows) then Some rows else None
-
 -- the rows of the records of an import: the header, and then rows of targets, no two of one id
 abbrev pub rows_of : List Record → Option (List TargetRow)
 rows_of [] = None
-rows_of (first ∷ rest) = if is_header first then option_and_then distinct_rows (each_row rest) else None
+rows_of (first ∷ rest) =
+    if pointwise (pointwise nat_eq) first header
+    then option_and_then (kept_if (λ (rows : List TargetRow). are_distinct_words (ids_of_rows rows))) (each_row rest)
+    else None
 
 -- the number of the first faulty record, the header being 1, also where there is no record: the least n for which the
 -- first n records are no import

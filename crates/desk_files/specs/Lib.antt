@@ -4,6 +4,5 @@ pub mod Reports
 pub mod ActionTables
 pub mod TargetRecords
 pub mod Imports
-pub mod ImportSteps
-pub mod RecordReaders
 pub mod Laws
+pub mod private

@@ -7,6 +7,15 @@ ghost use Rattle.desk_files.specs.ActionTables.{action_line, table_text};
 use rollout_model::{Action, Refusal};
 use std::alloc::{AllocError, Global};
 
+/// Pushes a cell and what ends it.
+fn push_cell(text: &mut String, cell: &str, end: &str) -> Result<(), AllocError>
+    ensures { OnOk result (string_bytes text.new ≡ string_bytes text.old ++ cell.now ++ end.now) }
+{
+    text.push_str(cell)?;
+    text.push_str(end)?;
+    Ok(())
+}
+
 fn push_action(alloc: Global, text: &mut String, action: &Action) -> Result<(), AllocError>
     ensures { OnOk result (string_bytes text.new ≡ string_bytes text.old ++ action_line action.now) }
 {
@@ -14,14 +23,10 @@ fn push_action(alloc: Global, text: &mut String, action: &Action) -> Result<(), 
     let group = action.group;
     let number = format!(in alloc; "{number}")?;
     let group = format!(in alloc; "{group}")?;
-    text.push_str(number.as_str())?;
-    text.push_str(",")?;
-    text.push_str(action.target.as_str())?;
-    text.push_str(",")?;
-    text.push_str(group.as_str())?;
-    text.push_str(",")?;
-    text.push_str(action.word.as_str())?;
-    text.push_str("\n")?;
+    push_cell(text, number.as_str(), ",")?;
+    push_cell(text, action.target.as_str(), ",")?;
+    push_cell(text, group.as_str(), ",")?;
+    push_cell(text, action.word.as_str(), "\n")?;
     Ok(())
 }
 

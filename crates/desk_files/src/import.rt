@@ -1,8 +1,9 @@
 //! The import of targets.
 
-ghost use Rattle.std.specs.Prelude.{◌≡◌};
+ghost use Rattle.std.specs.Prelude.{◌≡◌, nat_eq};
+ghost use Rattle.std.specs.Cmp.Lexicographic.{pointwise};
 ghost use Rattle.csv.specs.Records.{fields_of};
-ghost use Rattle.desk_files.specs.Imports.{ImportsAs, is_header, targets_in_file};
+ghost use Rattle.desk_files.specs.Imports.{ImportsAs, header, targets_in_file};
 
 use crate::fields::four_fields;
 use crate::import_fault::ImportFault;
@@ -13,7 +14,7 @@ use rollout_model::TargetRows;
 use std::alloc::Global;
 
 fn is_header(record: &ByteRecord) -> bool
-    ensures { result ≡ is_header (fields_of record.now) }
+    ensures { result ≡ pointwise (pointwise nat_eq) (fields_of record.now) header }
 {
     match four_fields(record) {
         Some(fields) => {

@@ -2,7 +2,7 @@
 
 ghost use Rattle.std.specs.Prelude.{◌≡◌, [], IfOk};
 ghost use Rattle.csv.specs.Records.{fields_of};
-ghost use Rattle.desk_files.specs.ImportSteps.{HasIds, TakesRecord};
+ghost use Rattle.desk_files.specs.private.ImportSteps.{HasIds, TakesRecord};
 
 use crate::target_record::read_row;
 use csv::ByteRecord;

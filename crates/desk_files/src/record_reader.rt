@@ -3,7 +3,7 @@
 ghost use Rattle.std.specs.Prelude.{◌≡◌, List, IfOk, IfErr};
 ghost use Rattle.csv.specs.Records.{fields_of};
 ghost use Rattle.desk_files.specs.Imports.{records_of};
-ghost use Rattle.desk_files.specs.RecordReaders.{GivesRecords, GivesNext};
+ghost use Rattle.desk_files.specs.private.RecordReaders.{GivesRecords, GivesNext};
 ghost use Rattle.desk_files.specs.TargetRecords.{Record};
 ghost use Rattle.desk_files.specs.declared.import_fault.ImportFault.TheVariants.{Memory};
 

@@ -6,7 +6,7 @@ use Rattle.sqlite.specs.Store.{Ghosts}
 use Rattle.sql_calls.specs.declared.calls.Calls.{Calls}
 use Rattle.sql_calls.specs.declared.fault.Fault.TheVariants.{Broken}
 use Rattle.desk_opening.specs.Counting.{CountsWhere, IsReadableAt}
-use Rattle.desk_opening.specs.Filling.{GivenBare}
+use Rattle.desk_opening.specs.private.Filling.{GivenBare}
 use Rattle.desk_opening.proofs.MigrateLemmas.{sees_bare, stood}
 use Rattle.desk_opening.proofs.HeldLemmas.{has_tables}
 

@@ -48,7 +48,7 @@ pub use Rattle.sql_calls.proofs.Selects.{passes, shown_of, simple_rows}
 pub use Rattle.sql_calls.proofs.Apart.{HasNoForeignKey}
 pub use Rattle.sql_calls.specs.Calls.{RunsText, TakesFirst, TakesTo}
 pub use Rattle.sql_calls.specs.KeyIndexes.{ComparesBytes}
-pub use Rattle.sql_calls.specs.Means.{Known, Knows, Means}
+pub use Rattle.sql_calls.specs.private.Means.{Known, Knows, Means}
 pub use Rattle.sql_calls.specs.Standing.{HoldIn, IsAtRest, Rests, Sees, Spoiled, Wears}
 pub use Rattle.sql_calls.specs.declared.fault.Fault.{Fault}
 pub use Rattle.sql_front.specs.Bare.{HaveNullDefaults, IsBareTable}
@@ -72,8 +72,8 @@ pub use Rattle.desk_records.specs.declared.rollout_texts.TheConstants.{GET_ROLLO
 pub use Rattle.desk_records.specs.declared.texts.TheConstants.{GET_DESK, PUT_DESK, SET_VERSION}
 pub use Rattle.desk_records.specs.declared.version.Version.{Version}
 pub use Rattle.desk_records.specs.declared.version.Version.TheVariants.{One}
-pub use Rattle.desk_opening.specs.Filling.{FillsLater, FillsRollout, MakesLedger, WritesCopies, WritesRules}
-pub use Rattle.desk_opening.specs.Filling.{bare_ledger, no_rules}
+pub use Rattle.desk_opening.specs.private.Filling.{FillsLater, FillsRollout, MakesLedger, WritesCopies, WritesRules}
+pub use Rattle.desk_opening.specs.private.Filling.{bare_ledger, no_rules}
 pub use Rattle.desk_store.specs.Breaking.{TellsFirst}
 pub use Rattle.desk_store.specs.Failing.{nothing}
 pub use Rattle.desk_opening.specs.Making.{AreApart, At, Before, Free, HoldsBefore, HoldsPartly, HoldsStage, IsEmptyTable, Makes, MakesTables}

@@ -14,7 +14,7 @@ use Rattle.desk_records.proofs.HeldCounts.{at_place}
 use Rattle.desk_store.specs.BrokenRows.{BreaksColumn}
 use Rattle.desk_store.specs.Readable.{KeepsColumns}
 use Rattle.desk_opening.specs.Counting.{AreReadable, HasReadable, IsRolloutReadable}
-use Rattle.desk_opening.specs.Filling.{GivenBare, GivenRules}
+use Rattle.desk_opening.specs.private.Filling.{GivenBare, GivenRules}
 use Rattle.desk_opening.proofs.RuleLists.{WritesUpTo, rules_up_to}
 
 -- ---- what is held can be read

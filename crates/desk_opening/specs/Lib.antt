@@ -1,9 +1,9 @@
 pub mod Places
 pub mod Counting
 pub mod Making
-pub mod Filling
 pub mod Migrating
 pub mod Opening
 pub mod Causes
 pub mod Reopening
 pub mod Faults
+pub mod private

@@ -6,7 +6,7 @@ ghost use Rattle.desk_store.specs.Breaking.{TellsFirst};
 ghost use Rattle.desk_store.specs.Failing.{nothing};
 ghost use Rattle.desk_store.specs.Sharing.{Stays, seen_by};
 ghost use Rattle.desk_opening.specs.Counting.{HasReadable};
-ghost use Rattle.desk_opening.specs.Filling.{FillsLater, FillsRollout, GivenBare, GivenRules, MakesLedger, WritesCopies, WritesRules};
+ghost use Rattle.desk_opening.specs.private.Filling.{FillsLater, FillsRollout, GivenBare, GivenRules, MakesLedger, WritesCopies, WritesRules};
 
 use desk_records::Version;
 use desk_store::{read_last_rollout, read_rollout, write_rule};

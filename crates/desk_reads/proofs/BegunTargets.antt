@@ -6,7 +6,7 @@ use Rattle.std.specs.Option.{IsSomeAnd}
 use Rattle.std.proofs.lemmas.Bool.Decides.{nat_tests}
 use Rattle.std.proofs.lemmas.List.{length-map}
 use Rattle.rollout_machine.specs.ByteStrings.{bytes_below}
-use Rattle.rollout_machine.specs.Filters.{matches, seen}
+use Rattle.rollout_machine.specs.Filters.{matches}
 use Rattle.rollout_machine.specs.Verdicts.{tags_of, target_of}
 use Rattle.target_filter.proofs.IdStarts.{begins_so}
 use Rattle.target_filter.proofs.Naming.{holds_alike}
@@ -18,9 +18,10 @@ use Rattle.desk_records.specs.Targets.{attributes_of, is_between, targets_betwee
 use Rattle.desk_records.specs.declared.target_row.ListedTarget.{ListedTarget}
 use Rattle.desk_reads.proofs.ListedTargets.{found, passing_found}
 use Rattle.desk_reads.proofs.Owned.{ids_listed}
-use Rattle.desk_reads.specs.Candidates.{AreBegun, AreCandidates, IsNextTo}
+use Rattle.desk_reads.specs.private.Candidates.{AreBegun, AreCandidates, IsNextTo}
 use Rattle.desk_reads.specs.Matches.{is_matched, those_matched}
 use Rattle.desk_reads.specs.Targets.{listed_ids, target_listed}
+use Rattle.rollout_machine.proofs.Words.{seen}
 
 -- ---- from a text to the next one
 

@@ -15,12 +15,12 @@ pub use Rattle.rollout_machine.proofs.TargetTies.{same_by, same_pointwise, same_
 pub use Rattle.rollout_machine.proofs.Valid.{none_holds}
 pub use Rattle.rollout_machine.specs.ByteStrings.{contains_word, item_numbered, same_bytes, sorted_words, with_word, with_words, without_word}
 pub use Rattle.rollout_machine.specs.CommandList.{CommandList, Make, ◌▸◌}
-pub use Rattle.rollout_machine.specs.CommandRules.{IsWellFormed, is_credential, is_device_feedback, is_set_label}
+pub use Rattle.rollout_machine.specs.CommandRules.{IsWellFormed, is_credential, is_device_feedback}
 pub use Rattle.rollout_machine.specs.Commands.{Attribute, Bytes, Command, Credential, DeviceFeedback, ModuleLabel, PutAttributes, PutTargets, RolloutPlan}
 pub use Rattle.rollout_machine.specs.Commands.{SetLabel, Tag, TargetRow, Untag}
-pub use Rattle.rollout_machine.specs.Records.{Records, added_modules, added_sets, group_in, modules, records, rollout_in, rollouts_in, sets}
+pub use Rattle.rollout_machine.specs.Records.{Records, group_in, modules, records, rollout_in, sets}
 pub use Rattle.rollout_machine.specs.Rollouts.{Rollout, chosen, created, first_of, rollout_at, rollouts, size_in, size_of}
-pub use Rattle.rollout_machine.specs.Targets.{Target, attributes_in, import_rows_of, last_row_for, last_row_of, tags_by_row, tags_in, target_ids, target_in}
+pub use Rattle.rollout_machine.specs.Targets.{Target, attributes_in, import_rows_of, last_row_for, last_row_of, tags_in, target_ids, target_in}
 pub use Rattle.rollout_machine.specs.Targets.{targets, with_attribute, with_attributes}
 pub use Rattle.rollout_machine.specs.Validity.{IsValid}
 pub use Rattle.rollout_machine.specs.Verdicts.{is_known, tags_of, target_of, verdict, verdict_row}
@@ -36,3 +36,4 @@ pub use Rattle.desk_records.specs.Targets.{are_sorted, attributes_of, ids_of, in
 pub use Rattle.desk_store.proofs.LedgersOfRecords.{ledger_found}
 pub use Rattle.desk_reads.specs.AtLists.{AreOfList, FailsAtListsIn}
 pub use Rattle.desk_reads.specs.Rollouts.{IsSeenOf, last_in, last_place}
+pub use Rattle.rollout_machine.proofs.Words.{added_modules, added_sets, is_set_label, rollouts_in, tags_by_row}

@@ -8,10 +8,11 @@ use Rattle.sql_calls.specs.Standing.{Finds}
 use Rattle.rollout_machine.specs.Records.{records}
 use Rattle.rollout_machine.specs.Effects.{HasSoundPlan}
 use Rattle.rollout_machine.specs.Ranges.{each_from}
-use Rattle.rollout_machine.specs.StateWords.{group_numbered, size_of_group}
+use Rattle.rollout_machine.specs.StateWords.{group_numbered}
 use Rattle.rollout_machine.specs.declared.records.GroupRecord.{GroupRecord}
 use Rattle.rollout_machine.proofs.Induction.{invariant_of, no_record}
 use Rattle.rollout_machine.proofs.Whole.{rollout_numbered}
+use Rattle.rollout_machine.proofs.Words.{size_of_group}
 
 -- what answers for all records answers at lists
 pub at_lists : {A E : Type 0} {a b : State} {P : Records → A → Type 0} → (out : Result A E) → Finds HoldsLedger ledger_of a b out P

@@ -9,9 +9,9 @@ use Rattle.std.proofs.lemmas.List.{drop-map, take-map}
 use Rattle.std.specs.Iterator.{Yields}
 use Rattle.std.specs.Vec.Iter.{into_iter_items, into_iter_steps}
 use Rattle.std.specs.declared.vec.IntoIter.{IntoIter}
-use Rattle.rollout_machine.specs.Filters.{seen}
 use Rattle.desk_records.specs.TargetRow.{listed_target}
 use Rattle.desk_reads.specs.Targets.{target_listed}
+use Rattle.rollout_machine.proofs.Words.{seen}
 
 -- ---- a list that is gone through
 

@@ -24,7 +24,7 @@ use Rattle.desk_records.specs.declared.target_row.OwnedAttribute.{OwnedAttribute
 use Rattle.desk_records.specs.declared.target_row.OwnedTag.{OwnedTag}
 use Rattle.desk_reads.proofs.Owned.{all_so, like_again, no_lists}
 use Rattle.desk_reads.proofs.WordOrder.{order_dropped, order_taken}
-use Rattle.desk_reads.specs.Candidates.{AreCandidates}
+use Rattle.desk_reads.specs.private.Candidates.{AreCandidates}
 use Rattle.desk_reads.specs.Matches.{AreNamedAttributes, AreNamedTags, HasNamedAttributes, HasNamedTags, attributes_reads, ids_matched, is_matched}
 use Rattle.desk_reads.specs.Matches.{reads_named, tags_reads, those_matched}
 use Rattle.std.specs.Prelude.{flat_map}

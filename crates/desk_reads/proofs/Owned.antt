@@ -1,6 +1,10 @@
 -- The tags of many targets, or the attributes, read at once, and which of them are each one's own.
 use Rattle.desk_reads.proofs.Common.{◌≡◌, ◌&&◌, ℕ, zero, suc, ◌<◌, ◌≤◌, Bool, true, false, List, [], ◌∷◌, map, find, length, take, drop, Option}
-use Rattle.desk_reads.proofs.Common.{None, Some, refl, sym, subst}
+use Rattle.desk_reads.proofs.Common.{None, Some, Ok, Result, inr, refl, sym, subst}
+use Rattle.std.specs.Prelude.{◌⊎◌, Err, IfErr}
+use Rattle.std.specs.Result.{IsErrAnd}
+use Rattle.sql_calls.specs.declared.fault.Fault.{Fault}
+use Rattle.sql_calls.specs.declared.fault.Fault.TheVariants.{Broken, Memory}
 use Rattle.desk_reads.proofs.Common.{ap, ◌∙◌, arith, and_parts, list_all, Records, Target, tags_of, target_of, IsSorted, are_sorted, ids_of}
 use Rattle.desk_reads.proofs.Common.{in_byte_order}
 use Rattle.desk_reads.proofs.Common.{AllAbove, sorted_from, has_id, same_true, Bytes}
@@ -449,3 +453,20 @@ part_ordered r sorted n m =
 
 pub never_wrong : (h : CommandList) → IsValid h → (owned : List OwnedTag) → AreLists (records h) owned → HasNoTagList owned → ⊥
 never_wrong h valid owned lists it = true≢false (sym (lists.each it.id (tags_keep h valid it.id)) ∙ it.wrong)
+
+-- what is left of the tags has no list of them for a target, so neither have all
+wrong : (tags left : List OwnedTag) (before : List Bytes) (id : Bytes) (words : List Bytes) → AreLeft tag_ids own_tags before tags left
+    → words ≡ own_tags id left → is_tag_list words ≡ false → HasNoTagList tags
+wrong tags left before id words of own no_list = record { id = id; wrong = by (list_all (λ w. bytes_below w id) before) (own ∙ of.behind id) }
+  where
+    by : (b : Bool) → words ≡ cond b (own_tags id tags) [] → is_tag_list (own_tags id tags) ≡ false
+    by true same = ap is_tag_list (sym same) ∙ no_list
+    by false same = absurd (true≢false (ap is_tag_list (sym same) ∙ no_list))
+
+pub wrong_list : {A : Type 0} (tags left : List OwnedTag) (before : List Bytes) (id : Bytes) (words : List Bytes)
+    → (rises (tag_ids tags) ≡ true → AreLeft tag_ids own_tags before tags left) → (rises (tag_ids left) ≡ true → words ≡ own_tags id left)
+    → (fault : Fault) → (fault ≡ Broken) × (is_tag_list words ≡ false) → (out : Result A Fault) → IsErrAnd out (λ e. e ≡ fault)
+    → IfErr out (λ e. (e ≡ Memory) ⊎ ((e ≡ Broken) × (rises (tag_ids tags) ≡ true → HasNoTagList tags)))
+wrong_list tags left before id words of own fault broken (Ok x) is = absurd is
+wrong_list tags left before id words of own fault broken (Err e) is =
+    inr (is ∙ broken.0, λ rise. let now = of rise in wrong tags left before id words now (own now.rise) broken.1)

@@ -2,5 +2,5 @@ pub mod Targets
 pub mod AtLists
 pub mod Rollouts
 pub mod Counted
-pub mod Candidates
 pub mod Matches
+pub mod private

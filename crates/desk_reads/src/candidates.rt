@@ -1,14 +1,15 @@
 //! Targets among which those are that a filter matches.
 
-ghost use Rattle.std.specs.Prelude.{◌≡◌, ◌≤◌, ◌+◌, IfErr, IfOk, IfSome};
+ghost use Rattle.std.specs.Prelude.{◌≡◌, IfErr, IfOk, IfSome};
 ghost use Rattle.std.specs.Option.{IsSomeAnd};
 ghost use Rattle.std.specs.String.{string_bytes};
 ghost use Rattle.sql_calls.specs.declared.fault.Fault.TheVariants.{Memory};
 ghost use Rattle.target_filter.specs.Profile.{filter_of};
 ghost use Rattle.desk_reads.specs.AtLists.{FailsAtListsIn};
-ghost use Rattle.desk_reads.specs.Candidates.{AreBegun, AreCandidates, IsNextTo};
+ghost use Rattle.desk_reads.specs.private.Candidates.{AreBegun, AreCandidates, IsNextTo};
 ghost use Rattle.desk_reads.specs.Targets.{listed_ids};
 ghost use Rattle.desk_store.specs.Changing.{FindsIn, StaysIn};
+ghost use Rattle.desk_store.specs.Counting.{RunsIn};
 
 use desk_store::{Fault, ListedTarget, OpenChange};
 use rollout_model::{ControllerId, Text};
@@ -27,7 +28,7 @@ pub(crate) fn read_candidates<S: Alter>(
     ensures reads { FindsIn S.Store change.old change.new result
         (λ now listed. IsSomeAnd (filter_of filter.now) (λ f. AreCandidates now f listed.items)) }
     ensures fails { FailsAtListsIn S.Store change.old change.new result }
-    ensures work { change.new.store.now.calls.work.statements ≤ change.old.store.now.calls.work.statements + 1 }
+    ensures work { RunsIn 1 change.old change.new }
 {
     let start = filter.id_start();
     if start.is_empty() && !filter.names_names() {
@@ -63,7 +64,7 @@ fn read_begun<S: Alter>(
     ensures stays { StaysIn S.Store change.old change.new result }
     ensures reads { FindsIn S.Store change.old change.new result (λ now listed. AreBegun now start.now listed.items) }
     ensures fails { FailsAtListsIn S.Store change.old change.new result }
-    ensures work { change.new.store.now.calls.work.statements ≤ change.old.store.now.calls.work.statements + 1 }
+    ensures work { RunsIn 1 change.old change.new }
 {
     let Ok(first) = str::from_utf8(start) else {
         let all = change.read_all_targets()?;
@@ -81,7 +82,7 @@ fn read_from<S: Alter>(
     ensures stays { StaysIn S.Store change.old change.new result }
     ensures reads { FindsIn S.Store change.old change.new result (λ now listed. AreBegun now first.now listed.items) }
     ensures fails { FailsAtListsIn S.Store change.old change.new result }
-    ensures work { change.new.store.now.calls.work.statements ≤ change.old.store.now.calls.work.statements + 1 }
+    ensures work { RunsIn 1 change.old change.new }
 {
     let next = next_to(change.alloc(), first)?;
     let Some(last) = next else {

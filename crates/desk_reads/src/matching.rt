@@ -19,6 +19,7 @@ ghost use Rattle.desk_reads.specs.Matches.{
 };
 ghost use Rattle.desk_reads.specs.Targets.{AreTagsLike, listed_ids};
 ghost use Rattle.desk_store.specs.Changing.{FindsIn, StaysIn};
+ghost use Rattle.desk_store.specs.Counting.{RunsIn};
 
 use crate::candidates::read_candidates;
 use crate::targets::{attributes_of_all, ends_of, tags_of_all, with_own};
@@ -102,8 +103,7 @@ fn keep_part<S: Alter>(
         (λ now _. in_byte_order (listed_ids part.items) ≡ true → (f : Tree) → filter_of filter.now ≡ Some f
         → ids.new.items ≡ ids.old.items ++ those_matched now f part.items) }
     ensures fails { FailsAtListsIn S.Store change.old change.new result }
-    ensures work { change.new.store.now.calls.work.statements ≤ change.old.store.now.calls.work.statements
-        + (tags_reads (filter_of filter.now) + attributes_reads (filter_of filter.now)) }
+    ensures work { RunsIn (tags_reads (filter_of filter.now) + attributes_reads (filter_of filter.now)) change.old change.new }
 {
     let tags = named_tags(change, filter, &part)?;
     let attributes = named_attributes(change, filter, &part)?;
@@ -122,7 +122,7 @@ fn named_tags<S: Alter>(
     ensures stays { StaysIn S.Store change.old change.new result }
     ensures reads { FindsIn S.Store change.old change.new result (λ now owned. AreNamedTags now (filter_of filter.now) listed.now owned.items) }
     ensures fails { FailsAtListsIn S.Store change.old change.new result }
-    ensures work { change.new.store.now.calls.work.statements ≤ change.old.store.now.calls.work.statements + tags_reads (filter_of filter.now) }
+    ensures work { RunsIn (tags_reads (filter_of filter.now)) change.old change.new }
 {
     if !filter.names_tags() {
         return Ok(Vec::new(change.alloc()));
@@ -144,7 +144,7 @@ fn tags_like<S: Alter>(
     ensures stays { StaysIn S.Store change.old change.new result }
     ensures reads { FindsIn S.Store change.old change.new result (λ now owned. AreTagsLike now tag.now listed.now owned.items) }
     ensures fails { FailsAtListsIn S.Store change.old change.new result }
-    ensures work { change.new.store.now.calls.work.statements ≤ change.old.store.now.calls.work.statements + 1 }
+    ensures work { RunsIn 1 change.old change.new }
 {
     if tag.is_empty() {
         let all = tags_of_all(change, listed)?;
@@ -167,7 +167,7 @@ fn named_attributes<S: Alter>(
     ensures reads { FindsIn S.Store change.old change.new result
         (λ now owned. AreNamedAttributes now (filter_of filter.now) listed.now owned.items) }
     ensures fails { FailsAtListsIn S.Store change.old change.new result }
-    ensures work { change.new.store.now.calls.work.statements ≤ change.old.store.now.calls.work.statements + attributes_reads (filter_of filter.now) }
+    ensures work { RunsIn (attributes_reads (filter_of filter.now)) change.old change.new }
 {
     if !filter.names_attributes() {
         return Ok(Vec::new(change.alloc()));

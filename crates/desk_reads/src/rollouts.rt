@@ -1,15 +1,17 @@
 //! Rollouts with their groups, as they are read.
 
-ghost use Rattle.std.specs.Prelude.{◌≡◌, ◌≤◌, ◌+◌, ◌&&◌, Some, length};
+ghost use Rattle.std.specs.Prelude.{◌≡◌, ◌+◌, ◌&&◌, Some, length};
 ghost use Rattle.std.specs.List.{list_all};
 ghost use Rattle.rollout_machine.specs.ByteStrings.{item_numbered};
 ghost use Rattle.rollout_machine.specs.declared.records.RolloutRecord.{RolloutRecord};
-ghost use Rattle.rollout_machine.specs.StateWords.{all_final, rollout_word, size_of_group};
+ghost use Rattle.rollout_machine.specs.Groups.{size_of_bounds};
+ghost use Rattle.rollout_machine.specs.StateWords.{all_final, rollout_word};
 ghost use Rattle.campaign_core.specs.RolloutChecks.{BothOrNone};
 ghost use Rattle.desk_records.specs.RolloutRow.{stored_rollout};
 ghost use Rattle.desk_reads.specs.Rollouts.{IsSeenOf, last_place};
 ghost use Rattle.desk_reads.specs.AtLists.{FailsAtListsIn, FindsAtListsIn};
 ghost use Rattle.desk_store.specs.Changing.{StaysIn};
+ghost use Rattle.desk_store.specs.Counting.{RunsIn};
 
 use campaign_core::{GroupStatus, RolloutStatus, rollout_word};
 use desk_store::{Fault, OpenChange, StoredRollout, ToldPlan};
@@ -66,7 +68,7 @@ const OPEN: GroupStatus = GroupStatus {
 
 /// How many members a group has.
 pub fn size_of(group: &GroupRecord) -> u64
-    ensures { result ≡ size_of_group group.now }
+    ensures { result ≡ size_of_bounds group.now.bounds }
 {
     (group.bounds.last as u64 + 1).saturating_sub(group.bounds.first as u64)
 }
@@ -103,7 +105,7 @@ pub fn read_seen_rollout<S: Alter>(
     ensures stays { StaysIn S.Store change.old change.new result }
     ensures reads { FindsAtListsIn S.Store change.old change.new result (λ now found. BothOrNone IsSeenOf found (item_numbered now.rollouts number)) }
     ensures fails { FailsAtListsIn S.Store change.old change.new result }
-    ensures work { change.new.store.now.calls.work.statements ≤ change.old.store.now.calls.work.statements + 2 }
+    ensures work { RunsIn 2 change.old change.new }
 {
     let stored = match change.read_rollout(number)? {
         Some(stored) => stored,
@@ -123,7 +125,7 @@ pub(crate) fn read_groups_of<S: Alter>(
     ensures reads { FindsAtListsIn S.Store change.old change.new result
         (λ now seen. (x : RolloutRecord) → item_numbered now.rollouts number ≡ Some x → stored ≡ stored_rollout x → IsSeenOf seen x) }
     ensures fails { FailsAtListsIn S.Store change.old change.new result }
-    ensures work { change.new.store.now.calls.work.statements ≤ change.old.store.now.calls.work.statements + 1 }
+    ensures work { RunsIn 1 change.old change.new }
 {
     let groups = change.read_groups(number)?;
     Ok(seen_as(number, stored, groups))

@@ -1,6 +1,6 @@
 //! Targets with their tags and attributes.
 
-ghost use Rattle.std.specs.Prelude.{◌≡◌, ◌≤◌, ◌+◌, ◌++◌, ◌⊎◌, [], ◌∷◌, true, false, length, map, IfErr, IfOk, MatchOption, MatchResult};
+ghost use Rattle.std.specs.Prelude.{◌≡◌, ◌++◌, ◌⊎◌, [], ◌∷◌, true, false, map, IfErr, IfOk, MatchOption, MatchResult};
 ghost use Rattle.desk_reads.specs.AtLists.{FailsAtListsIn};
 ghost use Rattle.rollout_model.specs.Rules.{is_tag_list};
 ghost use Rattle.desk_records.specs.Targets.{in_byte_order};
@@ -8,6 +8,7 @@ ghost use Rattle.sql_calls.specs.declared.fault.Fault.TheVariants.{Broken, Memor
 ghost use Rattle.desk_reads.specs.Targets.{AreAttributesOf, AreEnds, AreLeft, AreTagsLike, HasNoTagList, attribute_ids, listed_ids};
 ghost use Rattle.desk_reads.specs.Targets.{own_attributes, own_listed, own_tags, rises, tag_ids, target_listed};
 ghost use Rattle.desk_store.specs.Changing.{FindsIn, StaysIn};
+ghost use Rattle.desk_store.specs.Counting.{RunsIn};
 
 use desk_store::{Fault, ListedTarget, OpenChange, OwnedAttribute, OwnedTag};
 use rollout_model::{Attributes, ControllerId, Tags, Target, Word};
@@ -23,7 +24,7 @@ pub fn read_listed<S: Alter>(
     ensures stays { StaysIn S.Store change.old change.new result }
     ensures reads { FindsIn S.Store change.old change.new result (λ now target. target ≡ target_listed now listed) }
     ensures fails { FailsAtListsIn S.Store change.old change.new result }
-    ensures work { change.new.store.now.calls.work.statements ≤ change.old.store.now.calls.work.statements + 2 }
+    ensures work { RunsIn 2 change.old change.new }
 {
     let ListedTarget { id, name } = listed;
     let words = change.read_target_tags(&id)?;
@@ -47,7 +48,7 @@ pub fn read_all_listed<S: Alter>(
     ensures reads { FindsIn S.Store change.old change.new result
         (λ now targets. in_byte_order (listed_ids listed.items) ≡ true → targets.items ≡ map (target_listed now) listed.items) }
     ensures fails { FailsAtListsIn S.Store change.old change.new result }
-    ensures work { change.new.store.now.calls.work.statements ≤ change.old.store.now.calls.work.statements + 2 }
+    ensures work { RunsIn 2 change.old change.new }
 {
     let tags = tags_of_all(change, &listed)?;
     let attributes = attributes_of_all(change, &listed)?;
@@ -63,7 +64,7 @@ pub(crate) fn tags_of_all<S: Alter>(
     ensures stays { StaysIn S.Store change.old change.new result }
     ensures reads { FindsIn S.Store change.old change.new result (λ now owned. AreTagsLike now [] listed.now owned.items) }
     ensures fails { FailsAtListsIn S.Store change.old change.new result }
-    ensures work { change.new.store.now.calls.work.statements ≤ change.old.store.now.calls.work.statements + 1 }
+    ensures work { RunsIn 1 change.old change.new }
 {
     let Some((first, last)) = ends_of(listed) else {
         return Ok(Vec::new(change.alloc()));
@@ -80,7 +81,7 @@ pub(crate) fn attributes_of_all<S: Alter>(
     ensures stays { StaysIn S.Store change.old change.new result }
     ensures reads { FindsIn S.Store change.old change.new result (λ now owned. AreAttributesOf now listed.now owned.items) }
     ensures fails { FailsAtListsIn S.Store change.old change.new result }
-    ensures work { change.new.store.now.calls.work.statements ≤ change.old.store.now.calls.work.statements + 1 }
+    ensures work { RunsIn 1 change.old change.new }
 {
     let Some((first, last)) = ends_of(listed) else {
         return Ok(Vec::new(change.alloc()));

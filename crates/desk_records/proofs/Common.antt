@@ -65,7 +65,7 @@ pub use Rattle.rollout_machine.specs.Groups.{holds_position}
 pub use Rattle.rollout_machine.specs.Kinds.{TargetOffer, offer_to}
 pub use Rattle.rollout_machine.specs.Objects.{artifacts_shown, modules_of_set}
 pub use Rattle.rollout_machine.specs.RecordSteps.{change_target, new_target, put_target}
-pub use Rattle.rollout_machine.specs.Records.{ArtifactRecord, Records, added_artifacts, artifacts}
+pub use Rattle.rollout_machine.specs.Records.{ArtifactRecord, Records, artifacts}
 pub use Rattle.rollout_machine.specs.Reports.{Reported, bearing, entries_in}
 pub use Rattle.rollout_machine.specs.Targets.{Target, with_attribute}
 pub use Rattle.rollout_machine.specs.Verdicts.{is_named_by_set, tags_of, target_of}
@@ -87,7 +87,7 @@ pub use Rattle.sql_calls.proofs.Updates.{Updated, deletes, updates}
 pub use Rattle.sql_calls.proofs.UpsertsFrom.{PutsEach, each_keeps, uncollated, upserts_from}
 pub use Rattle.sql_calls.proofs.Columns.{Rise, by_column}
 pub use Rattle.sql_calls.specs.Keyed.{AreIn, IsHeldBy, rows_from}
-pub use Rattle.sql_calls.specs.Means.{Means}
+pub use Rattle.sql_calls.specs.private.Means.{Means}
 pub use Rattle.sql_front.specs.Stands.{Stands}
 pub use Rattle.desk_records.proofs.RowWords.{file_of, module_rows, names_of, shown_rows, words_of}
 pub use Rattle.desk_records.specs.Actions.{Tally, action_row, actor_of, entries_of, entry_row, history_of, lines_of, told_entry}
@@ -104,7 +104,7 @@ pub use Rattle.desk_records.specs.LedgerSteps.{SetsGroup, SetsRollout, action_tu
 pub use Rattle.desk_records.specs.LedgerSteps.{and_actions, cut_group, new_for, scheduled, turned, with_actions, with_groups, with_numbers, with_rollouts}
 pub use Rattle.desk_records.specs.LedgerSteps.{in_place_of, reoffered, with_rules}
 pub use Rattle.desk_records.specs.Listings.{AreBroken, AreRead, AreSaid, IsLastNumber, IsOnly, has_at, has_text_at, is_number_of, is_text_of}
-pub use Rattle.desk_records.specs.ModuleRow.{fault_at}
+pub use Rattle.desk_records.specs.private.ModuleRow.{fault_at}
 pub use Rattle.desk_records.specs.Modules.{IsLastRow, is_same, with_module}
 pub use Rattle.desk_records.specs.Offers.{HoldsOffers, is_to, offer_row}
 pub use Rattle.desk_records.specs.Parts.{listed_parts, part_row, parts_from, parts_numbered, parts_of}
@@ -129,3 +129,4 @@ pub use Rattle.rollout_model.specs.declared.approval.Approval.{Approval}
 pub use Rattle.sqlite.specs.Rowids.TheVariants.{Chosen}
 pub use Rattle.sqlite.specs.Values.{or_null}
 pub use Rattle.desk_records.proofs.WrittenRows.{shown_offer, shown_stored_action, shown_listed_action, shown_group, shown_last_number}
+pub use Rattle.rollout_machine.proofs.Words.{added_artifacts}

@@ -1,4 +1,3 @@
-pub mod ModuleRow
 pub mod RowFaults
 pub mod Schema
 pub mod Versions
@@ -33,3 +32,4 @@ pub mod PlaceLists
 pub mod FoundPieces
 pub mod CheckedRows
 pub mod CountedActions
+pub mod private

@@ -3,7 +3,7 @@
 ghost use Rattle.std.specs.Prelude.{◌≡◌, ◌⊎◌, IfOk, IfErr, true, false};
 ghost use Rattle.sqlite_value.specs.Order.{column};
 ghost use Rattle.desk_records.specs.Columns.{StoredText, has_text};
-ghost use Rattle.desk_records.specs.ModuleRow.{fault_at};
+ghost use Rattle.desk_records.specs.private.ModuleRow.{fault_at};
 ghost use Rattle.desk_records.specs.RowFaults.{fault_of_row};
 
 use crate::table_columns::Column;

@@ -27,13 +27,13 @@ pub use Rattle.rollout_machine.specs.ByteStrings.{item_numbered}
 pub use Rattle.rollout_machine.specs.Commands.{Bytes}
 pub use Rattle.rollout_machine.specs.Records.{group_in, rollout_in, Records}
 pub use Rattle.rollout_machine.specs.Reports.{HistoryEntry, Said}
-pub use Rattle.rollout_machine.specs.StateWords.{group_holding, number_of_group}
+pub use Rattle.rollout_machine.specs.StateWords.{group_holding}
 pub use Rattle.rollout_machine.specs.declared.records.GroupRecord.{GroupRecord}
 pub use Rattle.sql_calls.proofs.Counts.{count_rows}
 pub use Rattle.sql_calls.proofs.Finding.{ShowsFirst, ask_finds, first_finds, run_makes}
 pub use Rattle.sql_calls.proofs.Selects.{by, ordered_rows, passes, shown_in, shown_of, simple}
 pub use Rattle.sql_calls.specs.Calls.{AsksFew, AsksText, RunsText, TakesFirst, errors_in, few_of}
-pub use Rattle.sql_calls.specs.Means.{Known, Knows, KnowsWrite, writes_rows}
+pub use Rattle.sql_calls.specs.private.Means.{Known, Knows, KnowsWrite, writes_rows}
 pub use Rattle.sql_calls.specs.Standing.{Commits, Finds, GivesUp, Makes, Sees, Wears}
 pub use Rattle.sql_calls.specs.declared.fault.Fault.{Fault}
 pub use Rattle.sql_calls.specs.declared.fault.Fault.TheVariants.{Broken}
@@ -84,7 +84,7 @@ pub use Rattle.desk_records.specs.declared.texts.TheConstants.{GET_DESK}
 pub use Rattle.desk_store.specs.Blaming.{BlamesGiven, HasUnreadable, Reading, ReadsOf}
 pub use Rattle.desk_store.specs.Changing.{FindsTables, seen_in, FindsLedger}
 pub use Rattle.desk_store.specs.GroupPairs.{group_and_next}
-pub use Rattle.desk_store.specs.Rows.{AreReadAs, BreaksRule, HasBroken, HasNoNumber, IfRowsBroken, IsApproval, IsCount, IsReadAs, IsBroken}
+pub use Rattle.desk_store.specs.private.Rows.{AreReadAs, BreaksRule, HasBroken, HasNoNumber, IfRowsBroken, IsApproval, IsCount, IsReadAs, IsBroken}
 pub use Rattle.desk_store.specs.Unreadable.{IsUnreadable, large_number, many_rows}
 pub use Rattle.desk_store.specs.declared.change.OpenChange.{OpenChange}
 pub use Rattle.desk_store.specs.declared.groups.GroupAndNext.{GroupAndNext}
@@ -113,3 +113,4 @@ pub use Rattle.std.proofs.lemmas.List.{length-map}
 pub use Rattle.rollout_machine.specs.declared.records.ActionRecord.{ActionRecord}
 pub use Rattle.rollout_machine.specs.Targets.{Target}
 pub use Rattle.desk_records.proofs.DeskRecords.{gets_desk, told_desk}
+pub use Rattle.rollout_machine.proofs.Words.{number_of_group}

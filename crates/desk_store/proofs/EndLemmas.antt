@@ -1,6 +1,6 @@
 -- The ends of a change, where each failure is a failed store.
 use Rattle.desk_store.proofs.Common.{arith, ◌≡◌, Result, errors_in, State, Fault, Commits, GivesUp, HoldsLedger}
-use Rattle.desk_store.specs.Faults.{as_store}
+use Rattle.desk_store.specs.private.Faults.{as_store}
 
 module _ (old new : State) where
   pub commits_as_store : (out : Result (Unit {0}) Fault) → Commits HoldsLedger old new out → Commits HoldsLedger old new (as_store out)

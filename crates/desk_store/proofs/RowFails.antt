@@ -14,7 +14,7 @@ use Rattle.desk_records.proofs.NumberColumns.{is_in_range, small_is}
 use Rattle.desk_store.specs.Breaking.{TellsOnly}
 use Rattle.desk_store.specs.Failing.{FailsSeeing, AreActionsNumbered, nothing}
 use Rattle.desk_store.specs.Readable.{KeepsColumns}
-use Rattle.desk_store.specs.Rows.{HasNoApproval}
+use Rattle.desk_store.specs.private.Rows.{HasNoApproval}
 use Rattle.desk_store.proofs.Known.{in_ledgers, known, tables_know}
 use Rattle.desk_store.proofs.NextOfferCalls.{next}
 use Rattle.desk_store.proofs.RawCalls.{count_shown}

@@ -1,7 +1,4 @@
-pub mod Faults
-pub mod Rows
 pub mod Counting
-pub mod Texts
 pub mod Lending
 pub mod Changing
 pub mod GroupPairs
@@ -15,3 +12,4 @@ pub mod BrokenRows
 pub mod Readable
 pub mod Failing
 pub mod Sharing
+pub mod private

@@ -22,7 +22,7 @@ use Rattle.desk_records.specs.declared.member_row.PlacedMember.{PlacedMember}
 use Rattle.desk_records.specs.declared.rollout_row.ListedAction.{ListedAction}
 use Rattle.desk_records.specs.declared.table_columns.Column.{Column}
 use Rattle.desk_store.specs.RawLists.{SaysAction, SaysEntry}
-use Rattle.desk_store.specs.Rows.{BreaksRule}
+use Rattle.desk_store.specs.private.Rows.{BreaksRule}
 use Rattle.desk_store.specs.RuleTables.{HasGroupCount, HasNoRule, HasRule, HaveRules, grouping_of}
 
 -- what is shown of an entry, its sequence at the end

@@ -2,13 +2,13 @@
 
 ghost use Rattle.std.specs.List.{last_or, zip};
 ghost use Rattle.std.specs.Option.{option_map};
-ghost use Rattle.std.specs.Prelude.{◌+◌, ◌≡◌, ◌≤◌, None, drop, filter, length, map, nat_le, take};
+ghost use Rattle.std.specs.Prelude.{◌≡◌, None, drop, filter, length, map, nat_le, take};
 ghost use Rattle.rollout_machine.specs.ByteStrings.{item_numbered};
 ghost use Rattle.desk_records.specs.FeedbackNumbers.{last_number};
 ghost use Rattle.desk_records.specs.LedgerSteps.{AddsActions, SetsAction};
 ghost use Rattle.desk_records.specs.RolloutRow.{actions_for, actions_of, ended_for, stored_action};
 ghost use Rattle.desk_store.specs.Changing.{FindsLedger, KeepsTables, MakesLedger, StaysIn};
-ghost use Rattle.desk_store.specs.Counting.{AddsIn};
+ghost use Rattle.desk_store.specs.Counting.{AddsIn, RunsIn};
 ghost use Rattle.desk_store.specs.Failing.{FailsIn, WritesIn};
 
 use crate::change::OpenChange;
@@ -59,7 +59,7 @@ impl<'a, S: Alter> OpenChange<'a, S> {
         ensures reads { FindsLedger S.Store self.old self.new result
             (λ l found. found.items ≡ take page.limit (drop page.offset (actions_of l.records.rollouts number 1 (zip l.records.actions l.tallies)))) }
         ensures fails { FailsIn S.Store self.old self.new result }
-        ensures work { self.new.store.now.calls.work.statements ≤ self.old.store.now.calls.work.statements + 1 }
+        ensures work { RunsIn 1 self.old self.new }
     {
         let alloc = self.store.alloc;
         let rows = self.ask(LIST_ACTIONS, params![number.get(), page.limit, page.offset])?;
@@ -72,7 +72,7 @@ impl<'a, S: Alter> OpenChange<'a, S> {
         ensures reads { FindsLedger S.Store self.old self.new result
             (λ l numbers. numbers.items ≡ map (λ (a : ListedAction). a.number) (actions_for l.records.rollouts id.now 1 (zip l.records.actions l.tallies))) }
         ensures fails { FailsIn S.Store self.old self.new result }
-        ensures work { self.new.store.now.calls.work.statements ≤ self.old.store.now.calls.work.statements + 1 }
+        ensures work { RunsIn 1 self.old self.new }
     {
         let alloc = self.store.alloc;
         let rows = self.ask(LIST_ACTION_NUMBERS, params![id.as_str()])?;
@@ -91,7 +91,7 @@ impl<'a, S: Alter> OpenChange<'a, S> {
         ensures reads { FindsLedger S.Store self.old self.new result (λ l found. found.items ≡
             take limit (filter (λ (a : ListedAction). nat_le from a.number) (actions_for l.records.rollouts id.now 1 (zip l.records.actions l.tallies)))) }
         ensures fails { FailsIn S.Store self.old self.new result }
-        ensures work { self.new.store.now.calls.work.statements ≤ self.old.store.now.calls.work.statements + 1 }
+        ensures work { RunsIn 1 self.old self.new }
     {
         let alloc = self.store.alloc;
         let rows = self.ask(LIST_TARGET_ACTIONS, params![id.as_str(), from.get(), limit])?;

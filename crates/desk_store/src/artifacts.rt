@@ -1,13 +1,13 @@
 //! Artifacts and the pieces of their contents, in a change that is under way.
 
-ghost use Rattle.std.specs.Prelude.{◌≡◌, ◌≤◌, ◌+◌, IfSome, length, vec_items};
+ghost use Rattle.std.specs.Prelude.{◌≡◌, ◌+◌, IfSome, length, vec_items};
 ghost use Rattle.std.specs.List.{list_any};
 ghost use Rattle.std.specs.Option.{option_map};
 ghost use Rattle.rollout_machine.specs.ByteStrings.{item_numbered};
 ghost use Rattle.rollout_machine.specs.Objects.{artifacts_shown};
 ghost use Rattle.desk_records.specs.ArtifactRow.{stored};
 ghost use Rattle.desk_records.specs.Artifacts.{is_same_artifact, piece_numbered, with_artifact, AddsPiece};
-ghost use Rattle.desk_store.specs.Counting.{AddsIn};
+ghost use Rattle.desk_store.specs.Counting.{AddsIn, RunsIn};
 ghost use Rattle.desk_store.specs.Changing.{FindsIn, FindsTables, MakesIn, StaysIn};
 ghost use Rattle.desk_store.specs.RawLists.{AreListed, HasNumbered};
 ghost use Rattle.desk_store.specs.Failing.{FailsIn, WritesIn};
@@ -72,7 +72,7 @@ impl<'a, S: Alter> OpenChange<'a, S> {
         ensures reads { FindsIn S.Store self.old self.new result (λ r artifacts. artifacts.items ≡ artifacts_shown module_number 1 r.artifacts) }
         ensures tells { FindsTables S.Store self.old self.new result (λ t artifacts. AreListed t module_number artifacts.items) }
         ensures fails { FailsIn S.Store self.old self.new result }
-        ensures work { self.new.store.now.calls.work.statements ≤ self.old.store.now.calls.work.statements + 1 }
+        ensures work { RunsIn 1 self.old self.new }
     {
         let alloc = self.store.alloc;
         let rows = self.ask(LIST_ARTIFACTS, params![module_number.get()])?;

@@ -9,7 +9,7 @@ ghost use Rattle.desk_records.specs.Listings.{AreRead};
 ghost use Rattle.desk_records.specs.MemberRow.{IsPlacedRow, keeps_member_rules};
 ghost use Rattle.desk_records.specs.ReadRows.{broken_group_column};
 ghost use Rattle.desk_store.specs.RawLists.{IsKeptActionRow, IsKeptGroupRow};
-ghost use Rattle.desk_store.specs.Rows.{HasBroken, IfRowsBroken};
+ghost use Rattle.desk_store.specs.private.Rows.{HasBroken, IfRowsBroken};
 
 use desk_records::{
     CheckedArtifact, ListedAction, OwnedOffer, PlacedMember, is_too_long, read_checked_artifact,

@@ -1,13 +1,13 @@
 //! The histories of actions, in a change that is under way.
 
 ghost use Rattle.std.specs.List.{list_all};
-ghost use Rattle.std.specs.Prelude.{◌+◌, ◌≡◌, ◌≤◌, None, drop, take, true};
+ghost use Rattle.std.specs.Prelude.{◌≡◌, None, drop, take, true};
 ghost use Rattle.rollout_machine.specs.ByteStrings.{item_numbered};
 ghost use Rattle.desk_records.specs.Actions.{history_of};
 ghost use Rattle.desk_records.specs.EntryRow.{keeps_details};
 ghost use Rattle.desk_records.specs.LedgerSteps.{AddsEntry};
 ghost use Rattle.desk_store.specs.Changing.{FindsLedger, MakesLedger, StaysIn};
-ghost use Rattle.desk_store.specs.Counting.{AddsIn};
+ghost use Rattle.desk_store.specs.Counting.{AddsIn, RunsIn};
 ghost use Rattle.desk_store.specs.Failing.{FailsIn, WritesIn};
 
 use crate::change::OpenChange;
@@ -25,7 +25,7 @@ impl<'a, S: Alter> OpenChange<'a, S> {
             (λ l found. list_all keeps_details (history_of (item_numbered l.records.actions number)) ≡ true
             → found.items ≡ take page.limit (drop page.offset (history_of (item_numbered l.records.actions number)))) }
         ensures fails { FailsIn S.Store self.old self.new result }
-        ensures work { self.new.store.now.calls.work.statements ≤ self.old.store.now.calls.work.statements + 1 }
+        ensures work { RunsIn 1 self.old self.new }
     {
         let alloc = self.store.alloc;
         let rows = self.ask(LIST_ENTRIES, params![number.get(), page.limit, page.offset])?;

@@ -5,7 +5,7 @@ ghost use Rattle.sqlite_value.specs.Order.{Row, column};
 ghost use Rattle.desk_records.specs.Codes.{number_in};
 ghost use Rattle.desk_records.specs.Columns.{StoredBytes, StoredNumber, StoredText, has_bytes, has_number, has_word};
 ghost use Rattle.desk_records.specs.EntryRow.{BreaksEntry, BreaksSequenced, IsEntryRow, IsSequencedRow};
-ghost use Rattle.desk_store.specs.Rows.{IfBroken};
+ghost use Rattle.desk_store.specs.private.Rows.{IfBroken};
 
 use desk_records::{
     RowFault, SequencedEntry, read_action_number, read_entry, read_member, read_piece,

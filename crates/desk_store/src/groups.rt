@@ -1,16 +1,16 @@
 //! The groups of rollouts, in a change that is under way.
 
-ghost use Rattle.std.specs.Prelude.{◌+◌, ◌≡◌, ◌≤◌, IfErr, IfOk, slice_get};
+ghost use Rattle.std.specs.Prelude.{◌≡◌, IfErr, IfOk, slice_get};
 ghost use Rattle.rollout_machine.specs.ByteStrings.{item_numbered};
 ghost use Rattle.rollout_machine.specs.StateWords.{group_holding, group_numbered};
 ghost use Rattle.desk_records.specs.LedgerSteps.{AddsGroup, SetsGroup};
 ghost use Rattle.desk_records.specs.ReadRows.{IsGroupRow, broken_group_column};
 ghost use Rattle.desk_records.specs.Rollouts.{groups_of};
 ghost use Rattle.desk_store.specs.Changing.{FindsLedger, MakesLedger, StaysIn};
-ghost use Rattle.desk_store.specs.Counting.{AddsIn};
+ghost use Rattle.desk_store.specs.Counting.{AddsIn, RunsIn};
 ghost use Rattle.desk_store.specs.Failing.{FailsIn, WritesIn};
 ghost use Rattle.desk_store.specs.GroupPairs.{group_and_next};
-ghost use Rattle.desk_store.specs.Rows.{BreaksRule, HasBroken, IfRowsBroken, IsReadAs};
+ghost use Rattle.desk_store.specs.private.Rows.{BreaksRule, HasBroken, IfRowsBroken, IsReadAs};
 
 use crate::change::OpenChange;
 use crate::codes::flag_code;
@@ -46,7 +46,7 @@ impl<'a, S: Alter> OpenChange<'a, S> {
         ensures stays { StaysIn S.Store self.old self.new result }
         ensures reads { FindsLedger S.Store self.old self.new result (λ l groups. groups.items ≡ groups_of (item_numbered l.records.rollouts number)) }
         ensures fails { FailsIn S.Store self.old self.new result }
-        ensures work { self.new.store.now.calls.work.statements ≤ self.old.store.now.calls.work.statements + 1 }
+        ensures work { RunsIn 1 self.old self.new }
     {
         let alloc = self.store.alloc;
         let rows = self.ask(LIST_GROUPS, params![number.get()])?;

@@ -1,13 +1,13 @@
 //! The numbers that devices give entries of histories, in a change that is under way.
 
-ghost use Rattle.std.specs.Prelude.{◌+◌, ◌≡◌, ◌≤◌};
+ghost use Rattle.std.specs.Prelude.{◌≡◌};
 ghost use Rattle.desk_records.specs.FeedbackNumbers.{last_number, numbers_numbered};
 ghost use Rattle.desk_records.specs.LedgerSteps.{AddsNumber};
 ghost use Rattle.desk_records.specs.Listings.{AreSaid, has_at};
 ghost use Rattle.desk_records.specs.Schema.{Numbers};
 ghost use Rattle.desk_store.specs.Blaming.{BlamesGiven, ReadsOf};
 ghost use Rattle.desk_store.specs.Changing.{FindsLedger, FindsTables, MakesLedger, StaysIn};
-ghost use Rattle.desk_store.specs.Counting.{AddsIn};
+ghost use Rattle.desk_store.specs.Counting.{AddsIn, RunsIn};
 ghost use Rattle.desk_store.specs.Failing.{FailsIn, WritesIn};
 ghost use Rattle.desk_store.specs.RawLists.{SaysNumber};
 
@@ -39,7 +39,7 @@ impl<'a, S: Alter> OpenChange<'a, S> {
         ensures tells { FindsTables S.Store self.old self.new result (λ t found. AreSaid (t Numbers) (has_at 1 action) SaysNumber found.items) }
         ensures fails { FailsIn S.Store self.old self.new result }
         ensures blames { BlamesGiven S.Store (ReadsOf Numbers) self.old self.new result }
-        ensures work { self.new.store.now.calls.work.statements ≤ self.old.store.now.calls.work.statements + 1 }
+        ensures work { RunsIn 1 self.old self.new }
     {
         let alloc = self.store.alloc;
         let rows = self.ask(LIST_NUMBERS, params![action.get()])?;

@@ -1,6 +1,6 @@
 //! The tables of actions and their histories with whatever rows they have, in a change that is under way.
 
-ghost use Rattle.std.specs.Prelude.{◌≡◌, ◌≤◌, ◌+◌, IfErr, IfOk, filter_map, option_map, pos, vec_items};
+ghost use Rattle.std.specs.Prelude.{◌≡◌, IfErr, IfOk, filter_map, option_map, pos, vec_items};
 ghost use Rattle.std.specs.List.Sorted.{IsNonDecreasingBy};
 ghost use Rattle.sqlite_trees.specs.Tree.{has_rowid};
 ghost use Rattle.desk_records.specs.CheckedRows.{counted_of};
@@ -9,9 +9,9 @@ ghost use Rattle.desk_records.specs.Listings.{AreSaid, FindsOne, has_at};
 ghost use Rattle.desk_records.specs.Schema.{Actions, Feedbacks};
 ghost use Rattle.desk_store.specs.Blaming.{Blames, BlamesGiven, ReadsOf};
 ghost use Rattle.desk_store.specs.Changing.{FindsTables, StaysIn};
-ghost use Rattle.desk_store.specs.Counting.{AddsIn};
+ghost use Rattle.desk_store.specs.Counting.{AddsIn, RunsIn};
 ghost use Rattle.desk_store.specs.RawLists.{AreActions, IsFoundInOrder, ListsRows, SaysAction, SaysEntry, SaysNumbered};
-ghost use Rattle.desk_store.specs.Rows.{HasBroken, IfRowsBroken};
+ghost use Rattle.desk_store.specs.private.Rows.{HasBroken, IfRowsBroken};
 
 use crate::change::OpenChange;
 use crate::checked_row::read_checked;
@@ -69,7 +69,7 @@ impl<'a, S: Alter> OpenChange<'a, S> {
             (λ t found. ListsRows (t Actions) (has_at 2 number) SaysAction (option_map vec_items found)) }
         ensures order { FindsTables S.Store self.old self.new result (λ t found. IsFoundInOrder (λ a. a.number) (option_map vec_items found)) }
         ensures blames { BlamesGiven S.Store (ReadsOf Actions) self.old self.new result }
-        ensures work { self.new.store.now.calls.work.statements ≤ self.old.store.now.calls.work.statements + 1 }
+        ensures work { RunsIn 1 self.old self.new }
     {
         let alloc = self.store.alloc;
         let rows = self.ask(LIST_ACTIONS, params![number.get(), ALL, 0_u32])?;
@@ -82,7 +82,7 @@ impl<'a, S: Alter> OpenChange<'a, S> {
         ensures reads { FindsTables S.Store self.old self.new result (λ t found. AreSaid (t Feedbacks) (has_at 1 number) SaysEntry found.items) }
         ensures order { FindsTables S.Store self.old self.new result (λ t found. IsNonDecreasingBy (λ e. e.sequence) found.items) }
         ensures blames { BlamesGiven S.Store (ReadsOf Feedbacks) self.old self.new result }
-        ensures work { self.new.store.now.calls.work.statements ≤ self.old.store.now.calls.work.statements + 1 }
+        ensures work { RunsIn 1 self.old self.new }
     {
         let alloc = self.store.alloc;
         let rows = self.ask(LIST_ENTRIES, params![number.get(), ALL, 0_u32])?;
@@ -94,7 +94,7 @@ impl<'a, S: Alter> OpenChange<'a, S> {
         ensures stays { StaysIn S.Store self.old self.new result }
         ensures reads { FindsTables S.Store self.old self.new result (λ t found. CountsAgree (t Actions) number found.items) }
         ensures blames { Blames S.Store self.old self.new result }
-        ensures work { self.new.store.now.calls.work.statements ≤ self.old.store.now.calls.work.statements + 1 }
+        ensures work { RunsIn 1 self.old self.new }
     {
         let alloc = self.store.alloc;
         let rows = self.ask(LIST_ACTIONS, params![number.get(), ALL, 0_u32])?;

@@ -1,10 +1,11 @@
 //! The tables of artifacts and their pieces with whatever rows they have, in a change that is under way.
 
-ghost use Rattle.std.specs.Prelude.{◌≤◌, ◌+◌, map, option_map, vec_items};
+ghost use Rattle.std.specs.Prelude.{map, option_map, vec_items};
 ghost use Rattle.desk_records.specs.FoundPieces.{ArePieces};
 ghost use Rattle.desk_records.specs.Schema.{Artifacts, Pieces};
 ghost use Rattle.desk_store.specs.Blaming.{Blames, BlamesGiven, ReadsOf};
 ghost use Rattle.desk_store.specs.Changing.{FindsTables, StaysIn};
+ghost use Rattle.desk_store.specs.Counting.{RunsIn};
 ghost use Rattle.desk_store.specs.RawLists.{ListsRows, SaysArtifact, any_row};
 
 use crate::change::OpenChange;
@@ -21,7 +22,7 @@ impl<'a, S: Alter> OpenChange<'a, S> {
         ensures stays { StaysIn S.Store self.old self.new result }
         ensures reads { FindsTables S.Store self.old self.new result (λ t found. ListsRows (t Artifacts) any_row SaysArtifact (option_map vec_items found)) }
         ensures blames { Blames S.Store self.old self.new result }
-        ensures work { self.new.store.now.calls.work.statements ≤ self.old.store.now.calls.work.statements + 1 }
+        ensures work { RunsIn 1 self.old self.new }
     {
         let alloc = self.store.alloc;
         let rows = self.ask(LIST_ALL_ARTIFACTS, &[])?;
@@ -33,7 +34,7 @@ impl<'a, S: Alter> OpenChange<'a, S> {
         ensures stays { StaysIn S.Store self.old self.new result }
         ensures reads { FindsTables S.Store self.old self.new result (λ t pieces. ArePieces (t Pieces) number place (map vec_items pieces.items)) }
         ensures blames { BlamesGiven S.Store (ReadsOf Pieces) self.old self.new result }
-        ensures work { self.new.store.now.calls.work.statements ≤ self.old.store.now.calls.work.statements + 1 }
+        ensures work { RunsIn 1 self.old self.new }
     {
         let alloc = self.store.alloc;
         let rows = self.ask(GET_PIECE, params![number.get(), place])?;

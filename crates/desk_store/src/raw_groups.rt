@@ -1,11 +1,11 @@
 //! The table of groups with whatever rows it has, and how many actions there are, in a change that is under way.
 
-ghost use Rattle.std.specs.Prelude.{◌≡◌, ◌≤◌, ◌+◌, length, option_map, vec_items};
+ghost use Rattle.std.specs.Prelude.{◌≡◌, length, option_map, vec_items};
 ghost use Rattle.desk_records.specs.Listings.{has_at};
 ghost use Rattle.desk_records.specs.Schema.{Actions, Groups};
 ghost use Rattle.desk_store.specs.Blaming.{Blames, BlamesGiven, ReadsOf};
 ghost use Rattle.desk_store.specs.Changing.{FindsTables, StaysIn};
-ghost use Rattle.desk_store.specs.Counting.{AddsIn};
+ghost use Rattle.desk_store.specs.Counting.{AddsIn, RunsIn};
 ghost use Rattle.desk_store.specs.RawLists.{ListsRows, SaysGroup};
 
 use crate::change::OpenChange;
@@ -24,7 +24,7 @@ impl<'a, S: Alter> OpenChange<'a, S> {
         ensures reads { FindsTables S.Store self.old self.new result
             (λ t found. ListsRows (t Groups) (has_at 1 number) (SaysGroup number) (option_map vec_items found)) }
         ensures blames { Blames S.Store self.old self.new result }
-        ensures work { self.new.store.now.calls.work.statements ≤ self.old.store.now.calls.work.statements + 1 }
+        ensures work { RunsIn 1 self.old self.new }
     {
         let alloc = self.store.alloc;
         let rows = self.ask(LIST_GROUPS, params![number.get()])?;

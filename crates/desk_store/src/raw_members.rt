@@ -1,11 +1,11 @@
 //! The table of members with whatever rows it has, in a change that is under way.
 
-ghost use Rattle.std.specs.Prelude.{◌≡◌, ◌≤◌, ◌+◌, filter, length, option_map, vec_items};
+ghost use Rattle.std.specs.Prelude.{◌≡◌, filter, length, option_map, vec_items};
 ghost use Rattle.desk_records.specs.PlaceLists.{ListsPlaces, is_of};
 ghost use Rattle.desk_records.specs.Schema.{Members};
 ghost use Rattle.desk_store.specs.Blaming.{Blames, BlamesGiven, ReadsOf};
 ghost use Rattle.desk_store.specs.Changing.{FindsTables, StaysIn};
-ghost use Rattle.desk_store.specs.Counting.{AddsIn};
+ghost use Rattle.desk_store.specs.Counting.{AddsIn, RunsIn};
 
 use crate::change::OpenChange;
 use crate::checked_row::read_checked;
@@ -21,7 +21,7 @@ impl<'a, S: Alter> OpenChange<'a, S> {
         ensures stays { StaysIn S.Store self.old self.new result }
         ensures reads { FindsTables S.Store self.old self.new result (λ t found. ListsPlaces (t Members) number (option_map vec_items found)) }
         ensures blames { Blames S.Store self.old self.new result }
-        ensures work { self.new.store.now.calls.work.statements ≤ self.old.store.now.calls.work.statements + 1 }
+        ensures work { RunsIn 1 self.old self.new }
     {
         let alloc = self.store.alloc;
         let rows = self.ask(LIST_PLACES, params![number.get()])?;
@@ -33,7 +33,7 @@ impl<'a, S: Alter> OpenChange<'a, S> {
         ensures stays { StaysIn S.Store self.old self.new result }
         ensures reads { FindsTables S.Store self.old self.new result (λ t count. count ≡ length (filter (is_of number) (t Members))) }
         ensures blames { BlamesGiven S.Store (ReadsOf Members) self.old self.new result }
-        ensures work { self.new.store.now.calls.work.statements ≤ self.old.store.now.calls.work.statements + 1 }
+        ensures work { RunsIn 1 self.old self.new }
     {
         let rows = self.ask(LIST_PLACES, params![number.get()])?;
         row_count(&rows)

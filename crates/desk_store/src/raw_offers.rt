@@ -1,11 +1,11 @@
 //! The table of offers with whatever rows it has, in a change that is under way.
 
-ghost use Rattle.std.specs.Prelude.{◌≤◌, ◌+◌, option_map, vec_items};
+ghost use Rattle.std.specs.Prelude.{option_map, vec_items};
 ghost use Rattle.desk_records.specs.Listings.{FindsOne, has_text_at};
 ghost use Rattle.desk_records.specs.Schema.{Offers};
 ghost use Rattle.desk_store.specs.Blaming.{Blames, BlamesGiven, ReadsOf};
 ghost use Rattle.desk_store.specs.Changing.{FindsTables, StaysIn};
-ghost use Rattle.desk_store.specs.Counting.{AddsIn};
+ghost use Rattle.desk_store.specs.Counting.{AddsIn, RunsIn};
 ghost use Rattle.desk_store.specs.RawLists.{AreOffers, ListsRows, SaysOffer, SaysOfferOf, any_row};
 
 use crate::change::OpenChange;
@@ -37,7 +37,7 @@ impl<'a, S: Alter> OpenChange<'a, S> {
         ensures stays { StaysIn S.Store self.old self.new result }
         ensures reads { FindsTables S.Store self.old self.new result (λ t found. ListsRows (t Offers) any_row SaysOffer (option_map vec_items found)) }
         ensures blames { Blames S.Store self.old self.new result }
-        ensures work { self.new.store.now.calls.work.statements ≤ self.old.store.now.calls.work.statements + 1 }
+        ensures work { RunsIn 1 self.old self.new }
     {
         let alloc = self.store.alloc;
         let rows = self.ask(LIST_OFFERS, &[])?;

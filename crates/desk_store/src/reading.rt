@@ -3,8 +3,9 @@
 ghost use Rattle.std.specs.Prelude.{◌≡◌, ◌<◌, ◌≤◌, ◌^◌, ◌⊎◌, IfErr, IfOk, None, length, slice_get};
 ghost use Rattle.desk_records.specs.Modules.{IsLastRow};
 ghost use Rattle.desk_records.specs.ReadRows.{IsAttributeRow, broken_attribute_column};
-ghost use Rattle.desk_store.specs.Rows.{AreReadAs, BreaksRule, HasBroken, HasNoApproval, HasNoNumber, IfRowsBroken, IsApproval, IsBroken, IsCount, IsReadAs};
-ghost use Rattle.desk_store.specs.Faults.{as_store};
+ghost use Rattle.desk_store.specs.private.Rows.{AreReadAs, BreaksRule, HasBroken, HasNoApproval, HasNoNumber, IfRowsBroken};
+ghost use Rattle.desk_store.specs.private.Rows.{IsApproval, IsBroken, IsCount, IsReadAs};
+ghost use Rattle.desk_store.specs.private.Faults.{as_store};
 
 use crate::from_row::FromRow;
 use desk_records::{fault_of_row, read_approval};

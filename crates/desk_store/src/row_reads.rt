@@ -9,7 +9,7 @@ ghost use Rattle.desk_records.specs.ReadRows.{broken_listed_target_column, broke
 ghost use Rattle.desk_records.specs.ReadRows.{broken_owned_attribute_column, broken_owned_tag_column, broken_rule_column, broken_set_name_column};
 ghost use Rattle.desk_records.specs.ReadRows.{broken_stored_action_column, broken_stored_artifact_column, broken_stored_rollout_column};
 ghost use Rattle.desk_records.specs.ReadRows.{broken_stored_target_column};
-ghost use Rattle.desk_store.specs.Rows.{BreaksRule};
+ghost use Rattle.desk_store.specs.private.Rows.{BreaksRule};
 
 use crate::from_row::FromRow;
 use desk_records::{

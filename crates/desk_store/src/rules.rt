@@ -1,10 +1,10 @@
 //! What is said of the groups of rollouts, in a change that is under way.
 
-ghost use Rattle.std.specs.Prelude.{◌+◌, ◌≡◌, ◌≤◌, None};
+ghost use Rattle.std.specs.Prelude.{◌≡◌, None};
 ghost use Rattle.desk_records.specs.LedgerSteps.{AddsRule};
 ghost use Rattle.desk_records.specs.Rollouts.{rule_numbered, rules_numbered};
 ghost use Rattle.desk_store.specs.Changing.{FindsLedger, MakesLedger, StaysIn};
-ghost use Rattle.desk_store.specs.Counting.{AddsIn};
+ghost use Rattle.desk_store.specs.Counting.{AddsIn, RunsIn};
 ghost use Rattle.desk_store.specs.Failing.{FailsIn, WritesIn};
 
 use crate::change::OpenChange;
@@ -34,7 +34,7 @@ impl<'a, S: Alter> OpenChange<'a, S> {
         ensures stays { StaysIn S.Store self.old self.new result }
         ensures reads { FindsLedger S.Store self.old self.new result (λ l found. found.items ≡ rules_numbered l.rules number) }
         ensures fails { FailsIn S.Store self.old self.new result }
-        ensures work { self.new.store.now.calls.work.statements ≤ self.old.store.now.calls.work.statements + 1 }
+        ensures work { RunsIn 1 self.old self.new }
     {
         let alloc = self.store.alloc;
         let rows = self.ask(LIST_RULES, params![number.get()])?;

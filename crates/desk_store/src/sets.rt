@@ -1,6 +1,6 @@
 //! Distribution sets, in a change that is under way.
 
-ghost use Rattle.std.specs.Prelude.{◌≡◌, ◌≤◌, ◌+◌, length};
+ghost use Rattle.std.specs.Prelude.{◌≡◌, ◌+◌, length};
 ghost use Rattle.std.specs.List.{list_any};
 ghost use Rattle.std.specs.Option.{option_map};
 ghost use Rattle.rollout_machine.specs.ByteStrings.{item_numbered};
@@ -8,7 +8,7 @@ ghost use Rattle.rollout_machine.specs.Objects.{modules_of_set};
 ghost use Rattle.rollout_machine.specs.Verdicts.{is_named_by_set};
 ghost use Rattle.desk_records.specs.Sets.{is_same_set, with_set, AddsSetModule};
 ghost use Rattle.desk_records.specs.SetRow.{called};
-ghost use Rattle.desk_store.specs.Counting.{AddsIn};
+ghost use Rattle.desk_store.specs.Counting.{AddsIn, RunsIn};
 ghost use Rattle.desk_store.specs.Changing.{FindsIn, KeepsTables, MakesIn, StaysIn};
 ghost use Rattle.desk_store.specs.Failing.{FailsIn, WritesIn};
 
@@ -62,7 +62,7 @@ impl<'a, S: Alter> OpenChange<'a, S> {
         ensures keeps { KeepsTables S.Store self.old self.new result }
         ensures reads { FindsIn S.Store self.old self.new result (λ r modules. modules.items ≡ modules_of_set (item_numbered r.sets number)) }
         ensures fails { FailsIn S.Store self.old self.new result }
-        ensures work { self.new.store.now.calls.work.statements ≤ self.old.store.now.calls.work.statements + 1 }
+        ensures work { RunsIn 1 self.old self.new }
     {
         let alloc = self.store.alloc;
         let rows = self.ask(LIST_SET_MODULES, params![number.get()])?;

@@ -3,7 +3,7 @@
 ghost use Rattle.std.specs.Prelude.{◌≡◌};
 ghost use Rattle.sqlite.specs.Values.{bound};
 ghost use Rattle.sql_calls.specs.Calls.{AsksFew, AsksText, RunsText, TakesFirst, counts, row_in, rows_in};
-ghost use Rattle.sql_calls.specs.Means.{Knows, KnowsWrite};
+ghost use Rattle.sql_calls.specs.private.Means.{Knows, KnowsWrite};
 ghost use Rattle.desk_records.specs.Holds.{HoldsLedger};
 ghost use Rattle.desk_records.specs.Tables.{HoldsTables};
 ghost use Rattle.desk_store.specs.Blaming.{Blames};

@@ -6,7 +6,7 @@ ghost use Rattle.sql_calls.specs.Calls.{RunsText, Grows, fails, no_work, failure
 ghost use Rattle.sql_calls.specs.Standing.{Begins};
 ghost use Rattle.desk_records.specs.Holds.{HoldsLedger};
 ghost use Rattle.desk_records.specs.Tables.{HoldsTables};
-ghost use Rattle.desk_store.specs.Texts.{begin_text};
+ghost use Rattle.desk_store.specs.private.Texts.{begin_text};
 
 use crate::change::OpenChange;
 use sql_calls::{Calls, Fault, Work};

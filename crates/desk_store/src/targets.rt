@@ -1,12 +1,12 @@
 //! Targets and their tags, in a change that is under way.
 
-ghost use Rattle.std.specs.Prelude.{◌≡◌, ◌≤◌, ◌+◌, filter, flat_map, length, map, take, drop};
+ghost use Rattle.std.specs.Prelude.{◌≡◌, filter, flat_map, length, map, take, drop};
 ghost use Rattle.std.specs.Option.{option_map};
 ghost use Rattle.rollout_machine.specs.ByteStrings.{same_bytes};
 ghost use Rattle.rollout_machine.specs.Verdicts.{tags_of, target_of};
 ghost use Rattle.desk_records.specs.TargetRow.{listed_target, owned_tags, stored_target};
 ghost use Rattle.desk_records.specs.Targets.{AddsTag, AddsTarget, ids_of, renamed, targets_between, untagged, with_changed};
-ghost use Rattle.desk_store.specs.Counting.{AddsIn};
+ghost use Rattle.desk_store.specs.Counting.{AddsIn, RunsIn};
 ghost use Rattle.desk_store.specs.Changing.{FindsIn, KeepsTables, MakesIn, StaysIn};
 ghost use Rattle.desk_store.specs.Failing.{FailsIn, WritesIn};
 
@@ -40,7 +40,7 @@ impl<'a, S: Alter> OpenChange<'a, S> {
         ensures stays { StaysIn S.Store self.old self.new result }
         ensures reads { FindsIn S.Store self.old self.new result (λ r tags. tags.items ≡ tags_of (target_of r id.now)) }
         ensures fails { FailsIn S.Store self.old self.new result }
-        ensures work { self.new.store.now.calls.work.statements ≤ self.old.store.now.calls.work.statements + 1 }
+        ensures work { RunsIn 1 self.old self.new }
     {
         let alloc = self.store.alloc;
         let rows = self.ask(LIST_TARGET_TAGS, params![id.as_str()])?;
@@ -58,7 +58,7 @@ impl<'a, S: Alter> OpenChange<'a, S> {
         ensures reads { FindsIn S.Store self.old self.new result
             (λ r tags. tags.items ≡ flat_map owned_tags (targets_between first.now last.now r)) }
         ensures fails { FailsIn S.Store self.old self.new result }
-        ensures work { self.new.store.now.calls.work.statements ≤ self.old.store.now.calls.work.statements + 1 }
+        ensures work { RunsIn 1 self.old self.new }
     {
         let alloc = self.store.alloc;
         let rows = self.ask(LIST_TAGS_BETWEEN, params![first.as_str(), last.as_str()])?;
@@ -77,7 +77,7 @@ impl<'a, S: Alter> OpenChange<'a, S> {
         ensures reads { FindsIn S.Store self.old self.new result
             (λ r tags. tags.items ≡ filter (λ o. same_bytes o.tag tag.now) (flat_map owned_tags (targets_between first.now last.now r))) }
         ensures fails { FailsIn S.Store self.old self.new result }
-        ensures work { self.new.store.now.calls.work.statements ≤ self.old.store.now.calls.work.statements + 1 }
+        ensures work { RunsIn 1 self.old self.new }
     {
         let alloc = self.store.alloc;
         let rows = self.ask(
@@ -92,7 +92,7 @@ impl<'a, S: Alter> OpenChange<'a, S> {
         ensures stays { StaysIn S.Store self.old self.new result }
         ensures reads { FindsIn S.Store self.old self.new result (λ r listed. listed.items ≡ map listed_target r.targets) }
         ensures fails { FailsIn S.Store self.old self.new result }
-        ensures work { self.new.store.now.calls.work.statements ≤ self.old.store.now.calls.work.statements + 1 }
+        ensures work { RunsIn 1 self.old self.new }
     {
         let alloc = self.store.alloc;
         let rows = self.ask(LIST_ALL_TARGETS, &[])?;
@@ -104,7 +104,7 @@ impl<'a, S: Alter> OpenChange<'a, S> {
         ensures stays { StaysIn S.Store self.old self.new result }
         ensures reads { FindsIn S.Store self.old self.new result (λ r ids. ids.items ≡ ids_of r.targets) }
         ensures fails { FailsIn S.Store self.old self.new result }
-        ensures work { self.new.store.now.calls.work.statements ≤ self.old.store.now.calls.work.statements + 1 }
+        ensures work { RunsIn 1 self.old self.new }
     {
         let alloc = self.store.alloc;
         let rows = self.ask(LIST_TARGET_IDS, &[])?;
@@ -122,7 +122,7 @@ impl<'a, S: Alter> OpenChange<'a, S> {
         ensures reads { FindsIn S.Store self.old self.new result
             (λ r listed. listed.items ≡ map listed_target (targets_between first.now last.now r)) }
         ensures fails { FailsIn S.Store self.old self.new result }
-        ensures work { self.new.store.now.calls.work.statements ≤ self.old.store.now.calls.work.statements + 1 }
+        ensures work { RunsIn 1 self.old self.new }
     {
         let alloc = self.store.alloc;
         let rows = self.ask(LIST_TARGETS_BETWEEN, params![first, last])?;

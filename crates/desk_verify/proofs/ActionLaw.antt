@@ -5,7 +5,7 @@ use Rattle.desk_verify.proofs.Common.{ActionRecord, RolloutRecord, actions_follo
 use Rattle.desk_verify.proofs.Common.{stored_action, member_row, rollout_row, told_rollout, Actions, Feedbacks, Members, Place, Rollouts, IsAction, Tables}
 use Rattle.desk_verify.proofs.Common.{SequencedEntry, StoredAction, has_own_number, is_at, number_in_is, number_is, one_number, small_is, rise, IsGiven}
 use Rattle.desk_verify.proofs.Common.{AgreesActions, AreInOrder, FitsEntries, EntryGivesOutcome, HasActions, HasMember, IsRightAction, IsStarted, HistoryEntry}
-use Rattle.rollout_machine.specs.Histories.{first_outcome}
+use Rattle.rollout_machine.specs.private.Histories.{first_outcome}
 use Rattle.rollout_machine.proofs.Histories.{outcomes_fit_histories}
 use Rattle.desk_verify.specs.Actions.{HasActionAt}
 use Rattle.desk_verify.proofs.ActionLemmas.{same_action}

@@ -16,7 +16,7 @@ use Rattle.desk_store.specs.Unreadable.{HasTwins}
 use Rattle.desk_store.specs.declared.change.OpenChange.{OpenChange}
 use Rattle.desk_store.proofs.BlameLemmas.{found_reading, of_tables}
 use Rattle.desk_verify.specs.Checking.{ChecksTable}
-use Rattle.desk_verify.specs.RolloutChecks.{ReadsUpTo}
+use Rattle.desk_verify.specs.private.RolloutChecks.{ReadsUpTo}
 use Rattle.desk_verify.specs.Stopping.{StopsInOrder, is_read_for}
 use Rattle.desk_verify.specs.declared.damage.CheckedTable.{CheckedTable}
 use Rattle.desk_verify.specs.declared.damage.CheckedTable.TheVariants.{Member, RolloutGroup, Action, Offer}

@@ -37,7 +37,7 @@ pub use Rattle.rollout_machine.proofs.WithinLimits.{IsWithinLimits, each_created
 pub use Rattle.rollout_machine.specs.Actions.{history, outcome_said}
 pub use Rattle.rollout_machine.specs.ByteStrings.{item_numbered}
 pub use Rattle.rollout_machine.specs.CommandList.{CommandList, Make, ◌▸◌}
-pub use Rattle.rollout_machine.specs.CommandRules.{IsWellFormed, is_device_feedback, is_feedback_number_or_none, is_plan}
+pub use Rattle.rollout_machine.specs.CommandRules.{IsWellFormed, is_device_feedback, is_plan}
 pub use Rattle.rollout_machine.specs.Commands.{Attribute, Bytes, Command, CreateRollout, DeviceFeedback, RolloutPlan, SetLabel}
 pub use Rattle.rollout_machine.specs.Counts.{is_outcome}
 pub use Rattle.rollout_machine.specs.GroupCounts.{IsCountedGroup}
@@ -111,17 +111,18 @@ pub use Rattle.desk_verify.specs.ActionChecks.{PassesHistory, are_for, count_non
 pub use Rattle.desk_verify.specs.Actions.{AgreesActions, AreInOrder, FitsEntries, EntryGivesOutcome, HasActions, HasMember, IsRightAction, IsStarted}
 pub use Rattle.desk_verify.specs.Actions.{KeepsNumbers, PassesActions}
 pub use Rattle.desk_verify.specs.Agreement.{AgreeBefore, Agrees, SettlesWhether, IsDamage, NamesFirst, Passes, Settles, checked}
-pub use Rattle.desk_verify.specs.ArtifactChecks.{HashesPieces, IsHashed}
+pub use Rattle.desk_verify.specs.private.ArtifactChecks.{HashesPieces, IsHashed}
 pub use Rattle.desk_verify.specs.Artifacts.{AgreesArtifacts, HasPieces}
 pub use Rattle.desk_verify.specs.Checking.{ChecksGroups}
-pub use Rattle.desk_verify.specs.Cuts.{are_bounds, are_right, counts_them, has_each, has_group_numbered, is_cut, is_right}
-pub use Rattle.desk_verify.specs.Following.{follow}
+pub use Rattle.desk_verify.specs.private.Cuts.{are_bounds, are_right, counts_them, has_each, has_group_numbered, is_cut, is_right}
+pub use Rattle.desk_verify.specs.private.Following.{follow}
 pub use Rattle.desk_verify.specs.GroupChecks.{HasEach, HasOnlyRule, HaveOnlyRules, IsCutOnlyBy}
 pub use Rattle.desk_verify.specs.Groups.{AgreesGroups, HasGroup, IsCutBy, IsInRollout, IsRightGroup, ended_in, has_ended, member_count}
-pub use Rattle.desk_verify.specs.Judged.{within}
+pub use Rattle.desk_verify.specs.private.Judged.{within}
 pub use Rattle.desk_verify.specs.Members.{AgreesMembers, HasPlace, IsInPlace}
 pub use Rattle.desk_verify.specs.OfferChecks.{Fits, IsOfferedIfDue, IsRight, IsRowOffered, holds_started, is_due, is_started_at}
 pub use Rattle.desk_verify.specs.Offers.{AgreesOffers, HasNumberedAction, IsDue, IsInStartedGroup, IsOffered, IsRightOffer}
-pub use Rattle.desk_verify.specs.RolloutChecks.{AreAllChecked, AreChecked, HasRollout, IsAtRollout, IsChecked, IsUpTo, JudgesAll, JudgesOne}
+pub use Rattle.desk_verify.specs.private.RolloutChecks.{AreAllChecked, AreChecked, HasRollout, IsAtRollout, IsChecked, IsUpTo, JudgesAll, JudgesOne}
 pub use Rattle.desk_verify.specs.Rollouts.{IsThere}
 pub use Rattle.desk_verify.specs.declared.damage.CheckedTable.TheVariants.{Artifact}
+pub use Rattle.rollout_machine.proofs.Words.{is_feedback_number_or_none}

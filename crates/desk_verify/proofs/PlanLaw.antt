@@ -3,13 +3,14 @@ use Rattle.desk_verify.proofs.Common.{◌≡◌, ◌≤◌, ◌<◌, ℕ, zero, 
 use Rattle.desk_verify.proofs.Common.{arith, and_parts, eqb-true, define_each, item_numbered, CommandList, CreateRollout, RolloutPlan}
 use Rattle.desk_verify.proofs.Common.{GroupRule, rule_at, rules_of, GroupDefinition, leaves_empty, IsValid, RolloutRecord, length_each, each_created, made}
 use Rattle.desk_verify.proofs.Common.{told_rule, HaveRules, definitions_in, grouping_of, is_plan, each_rule, IsRuleRow}
-use Rattle.rollout_machine.specs.Rollouts.{Rollout, members_of, size_of}
+use Rattle.rollout_machine.specs.Rollouts.{Rollout, size_of}
 use Rattle.rollout_machine.specs.Ranges.{each_from}
 use Rattle.rollout_machine.specs.Records.{records}
 use Rattle.rollout_machine.specs.Verdicts.{verdict}
 use Rattle.rollout_machine.proofs.AtNumbers.{of_rollout}
 use Rattle.rollout_machine.proofs.Valid.{none_holds}
 use Rattle.desk_verify.proofs.CodeLemmas.{percentage_is}
+use Rattle.rollout_machine.proofs.Words.{members_of}
 
 -- ---- plans
 

@@ -5,7 +5,7 @@ use Rattle.std.specs.Cmp.Lexicographic.{pointwise}
 use Rattle.sqlite_value.specs.Order.{Row}
 use Rattle.sqlite_rules.specs.Lists.{Has}
 use Rattle.rollout_machine.specs.Counts.{is_outcome}
-use Rattle.rollout_machine.specs.Histories.{first_outcome}
+use Rattle.rollout_machine.specs.private.Histories.{first_outcome}
 use Rattle.rollout_machine.specs.declared.outcome.Outcome.{Outcome}
 use Rattle.rollout_machine.specs.declared.outcome.Outcome.TheVariants.{Gone}
 use Rattle.desk_records.specs.Listings.{AreBroken, AreSaid, has_at}

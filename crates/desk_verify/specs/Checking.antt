@@ -3,7 +3,7 @@ use Rattle.desk_records.specs.Schema.{Actions, Feedbacks, Groups, Members, Numbe
 use Rattle.desk_store.specs.Blaming.{Reading, ReadsOf}
 use Rattle.desk_store.specs.RawLists.{AreOffers}
 use Rattle.desk_verify.specs.Agreement.{AgreeBefore}
-use Rattle.desk_verify.specs.RolloutChecks.{IsGoneThrough}
+use Rattle.desk_verify.specs.private.RolloutChecks.{IsGoneThrough}
 use Rattle.desk_verify.specs.declared.damage.CheckedTable.{CheckedTable}
 use Rattle.desk_verify.specs.declared.damage.CheckedTable.TheVariants.{Action, Artifact, Member, Offer, RolloutGroup}
 

@@ -9,7 +9,7 @@ ghost use Rattle.desk_verify.specs.ActionChecks.{AreMembersInTurn, AreActionsWho
 ghost use Rattle.desk_verify.specs.Actions.{AgreesActions, IsRightAction, PassesActions};
 ghost use Rattle.desk_verify.specs.Agreement.{Settles};
 ghost use Rattle.desk_verify.specs.Checking.{ChecksActions};
-ghost use Rattle.desk_verify.specs.RolloutChecks.{IsGoneThrough};
+ghost use Rattle.desk_verify.specs.private.RolloutChecks.{IsGoneThrough};
 
 use crate::histories::fit_histories;
 use crate::rollouts::{ByRollout, NumberedRollout, check_rollouts};

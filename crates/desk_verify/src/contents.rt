@@ -5,7 +5,7 @@ ghost use Rattle.artifact_pieces.specs.Pieces.{piece_count};
 ghost use Rattle.desk_records.specs.Schema.{Pieces};
 ghost use Rattle.desk_store.specs.Blaming.{BlamesGiven, ReadsOf};
 ghost use Rattle.desk_store.specs.Changing.{FindsTables, StaysIn};
-ghost use Rattle.desk_verify.specs.ArtifactChecks.{HashesPiece, HashesPieces};
+ghost use Rattle.desk_verify.specs.private.ArtifactChecks.{HashesPiece, HashesPieces};
 
 use desk_store::{Fault, OpenChange};
 use rollout_model::limits::PIECE_LENGTH;

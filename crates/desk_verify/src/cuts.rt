@@ -2,7 +2,7 @@
 
 ghost use Rattle.std.specs.Prelude.{◌≡◌, IfOk, count_by};
 ghost use Rattle.std.specs.List.{list_all};
-ghost use Rattle.desk_verify.specs.Cuts.{are_right, counts_them, has_each, has_group_numbered, is_cut, is_right};
+ghost use Rattle.desk_verify.specs.private.Cuts.{are_right, counts_them, has_each, has_group_numbered, is_cut, is_right};
 ghost use Rattle.desk_verify.specs.Groups.{has_ended};
 ghost use Rattle.rollout_machine.specs.declared.outcome.Outcome.TheVariants.{Bad, Gone, Good};
 

@@ -6,7 +6,7 @@ ghost use Rattle.desk_store.specs.Changing.{FindsTables, StaysIn};
 ghost use Rattle.desk_store.specs.RuleTables.{definition_by, definitions_in, grouping_with};
 ghost use Rattle.desk_verify.specs.Checking.{ChecksGroups};
 ghost use Rattle.desk_verify.specs.GroupChecks.{HaveOnlyRules, IsCutOnlyBy};
-ghost use Rattle.desk_verify.specs.RolloutChecks.{HasRollout, IsAtRollout};
+ghost use Rattle.desk_verify.specs.private.RolloutChecks.{HasRollout, IsAtRollout};
 
 use crate::rollouts::NumberedRollout;
 use desk_store::{Fault, OpenChange};

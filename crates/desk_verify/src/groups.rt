@@ -8,7 +8,7 @@ ghost use Rattle.desk_verify.specs.Agreement.{SettlesWhether};
 ghost use Rattle.desk_verify.specs.Checking.{ChecksGroups};
 ghost use Rattle.desk_verify.specs.GroupChecks.{HasEach};
 ghost use Rattle.desk_verify.specs.Groups.{AgreesGroups, IsInRollout};
-ghost use Rattle.desk_verify.specs.RolloutChecks.{IsGoneThrough};
+ghost use Rattle.desk_verify.specs.private.RolloutChecks.{IsGoneThrough};
 
 use crate::cuts::are_right;
 use crate::groupings::read_grouping;

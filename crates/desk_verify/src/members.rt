@@ -6,7 +6,7 @@ ghost use Rattle.desk_records.specs.Schema as schema;
 ghost use Rattle.desk_records.specs.Schema.{Members};
 ghost use Rattle.desk_verify.specs.Agreement.{SettlesWhether};
 ghost use Rattle.desk_verify.specs.Members.{AgreesMembers, IsInPlace};
-ghost use Rattle.desk_verify.specs.RolloutChecks.{IsGoneThrough};
+ghost use Rattle.desk_verify.specs.private.RolloutChecks.{IsGoneThrough};
 
 use crate::places::are_in_place;
 use crate::rollouts::{ByRollout, NumberedRollout, check_rollouts};

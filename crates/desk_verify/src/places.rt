@@ -1,7 +1,7 @@
 //! Whether places have no gap.
 
 ghost use Rattle.std.specs.Prelude.{◌≡◌};
-ghost use Rattle.desk_verify.specs.Following.{follow};
+ghost use Rattle.desk_verify.specs.private.Following.{follow};
 
 use desk_store::PlacedMember;
 

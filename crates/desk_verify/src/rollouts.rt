@@ -6,7 +6,7 @@ ghost use Rattle.desk_records.specs.Schema.{Place};
 ghost use Rattle.desk_records.specs.Tables.{Tables};
 ghost use Rattle.desk_store.specs.Blaming.{BlamesGiven, Reading};
 ghost use Rattle.desk_store.specs.Changing.{FindsTables, StaysIn};
-ghost use Rattle.desk_verify.specs.RolloutChecks.{HasRollout, IsAtRollout, IsGoneThrough, JudgesAll, JudgesOne, ReadsUpTo};
+ghost use Rattle.desk_verify.specs.private.RolloutChecks.{HasRollout, IsAtRollout, IsGoneThrough, JudgesAll, JudgesOne, ReadsUpTo};
 
 use desk_store::{Fault, OpenChange, StoredRollout};
 use rollout_model::RolloutNo;

@@ -22,26 +22,25 @@ pub use Rattle.target_filter.specs.Profile.{filter_of}
 pub use Rattle.artifact_pieces.specs.Pieces.{piece_at, piece_bytes, piece_count, pieces_of}
 pub use Rattle.rollout_machine.proofs.TargetTies.{same_pointwise, same_refl, same_sym, same_true}
 pub use Rattle.rollout_machine.proofs.WithinLimits.{limits_hold}
-pub use Rattle.rollout_machine.specs.Answers.{action_if, action_of_target, artifact_named, group_reply, if_found, is_offer_of, modules_offered, query_reply}
-pub use Rattle.rollout_machine.specs.Answers.{target_if, targets_matching, targets_of}
+pub use Rattle.rollout_machine.specs.Answers.{action_of_target, artifact_named, if_found, is_offer_of, modules_offered, query_reply}
+pub use Rattle.rollout_machine.specs.Answers.{targets_of}
 pub use Rattle.rollout_machine.specs.ByteStrings.{contains_word, item_numbered, same_bytes}
 pub use Rattle.rollout_machine.specs.CommandList.{CommandList, Make, ◌▸◌}
 pub use Rattle.rollout_machine.specs.Commands.{Bytes, Command, CreateRollout, Credential, ModuleLabel, SetLabel}
-pub use Rattle.rollout_machine.specs.Filters.{matches, seen}
+pub use Rattle.rollout_machine.specs.Filters.{matches}
 pub use Rattle.rollout_machine.specs.GroupRules.{GroupRule, rule_at, rules_of}
-pub use Rattle.rollout_machine.specs.Objects.{action_shown, actions_of_rollout, actions_of_target, actions_where, artifacts_shown, chunks_of, entry_shown}
-pub use Rattle.rollout_machine.specs.Objects.{group_shown, groups_shown, members_in, numbered, page_of, report_of, rollout_shown, rollouts_shown, target_shown}
-pub use Rattle.rollout_machine.specs.Objects.{targets_shown}
+pub use Rattle.rollout_machine.specs.Objects.{action_shown, actions_of_target, actions_where, artifacts_shown, chunks_of, entry_shown}
+pub use Rattle.rollout_machine.specs.Objects.{group_shown, members_in, page_of, report_of, rollout_shown, target_shown}
 pub use Rattle.rollout_machine.specs.Offers.{Offer, first_offer, offer}
-pub use Rattle.rollout_machine.specs.Records.{ArtifactRecord, Records, added_artifacts, artifacts, group_in, records}
+pub use Rattle.rollout_machine.specs.Records.{ArtifactRecord, Records, artifacts, group_in, records}
 pub use Rattle.rollout_machine.specs.Replies.{ActionShown, ActionsShown, ActionsTableShown, Artifact, ArtifactsShown, ContentsShown, GroupShown, GroupsShown}
 pub use Rattle.rollout_machine.specs.Replies.{HistoryShown, ModulesShown, PageOf, Refused, ReportShown, RolloutsShown, SetsShown, ShownAction, ShownGroup}
 pub use Rattle.rollout_machine.specs.Replies.{ShownRollout, TargetsShown, ShownEntry}
 pub use Rattle.rollout_machine.specs.Reports.{HistoryEntry, Reported, entries_in}
 pub use Rattle.rollout_machine.specs.Requests.{Download, Page, ShowTargets}
 pub use Rattle.rollout_machine.specs.Rollouts.{Rollout, chosen, created, rollouts, size_in, size_of}
-pub use Rattle.rollout_machine.specs.StateWords.{InError, InSync, Pending, TargetWord, Unknown, group_holding, group_is_started, group_numbered, has_started}
-pub use Rattle.rollout_machine.specs.StateWords.{is_for, size_of_group, started_actions_of, target_word, word_by_last}
+pub use Rattle.rollout_machine.specs.StateWords.{InError, InSync, Pending, TargetWord, Unknown, group_holding, group_numbered, has_started}
+pub use Rattle.rollout_machine.specs.StateWords.{is_for, target_word}
 pub use Rattle.rollout_machine.specs.Targets.{Target, target_ids, target_in}
 pub use Rattle.rollout_machine.specs.Validity.{IsValid}
 pub use Rattle.rollout_machine.specs.Verdicts.{target_of}
@@ -66,7 +65,7 @@ pub use Rattle.desk_records.specs.declared.target_row.ListedTarget.{ListedTarget
 pub use Rattle.desk_store.proofs.LedgersOfRecords.{ledger_found}
 pub use Rattle.desk_store.specs.Changing.{FindsIn, StaysIn, seen_in}
 pub use Rattle.desk_store.specs.Readable.{IsReadable}
-pub use Rattle.desk_store.specs.Rows.{IfRowsBroken}
+pub use Rattle.desk_store.specs.private.Rows.{IfRowsBroken}
 pub use Rattle.desk_reads.proofs.ListLemmas.{group_within, groups_are, made}
 pub use Rattle.desk_reads.proofs.ListedTargets.{all_given, part_seen}
 pub use Rattle.desk_reads.proofs.RuleLemmas.{rule_is, rule_there, rules_there, said_of, same_number}
@@ -74,13 +73,17 @@ pub use Rattle.desk_reads.specs.AtLists.{AreOfList, FailsAtListsIn, FailsWith, F
 pub use Rattle.desk_reads.specs.Rollouts.{IsSeenOf}
 pub use Rattle.desk_reads.specs.Targets.{target_listed}
 pub use Rattle.desk_reads.specs.declared.rollouts.SeenRollout.{SeenRollout}
-pub use Rattle.desk_views.specs.Actions.{entry_by, listed_shown, number_at, reports_of, shown_among, shown_in, stored_in}
-pub use Rattle.desk_views.specs.Contents.{contents_found}
+pub use Rattle.desk_views.specs.private.Actions.{entry_by, listed_shown, number_at, reports_of, shown_among, shown_in, stored_in}
+pub use Rattle.desk_views.specs.private.Contents.{contents_found}
 pub use Rattle.desk_views.specs.Downloads.{downloadable, named, or_not_found}
-pub use Rattle.desk_views.specs.Groups.{HasUnshown, IsGroupOf}
+pub use Rattle.desk_views.specs.private.Groups.{HasUnshown, IsGroupOf}
 pub use Rattle.desk_views.specs.Sizes.{IsOfName}
-pub use Rattle.desk_views.specs.TargetWords.{ending_of, has_begun, is_begun, last_ended}
+pub use Rattle.desk_views.specs.private.TargetWords.{ending_of, has_begun, is_begun, last_ended}
 pub use Rattle.desk_views.specs.Targets.{IsContentOf, matching_shown, worded}
 pub use Rattle.desk_store.proofs.FailLemmas.{has_dropped, has_taken}
 pub use Rattle.desk_store.proofs.ActionCalls.{kept_from, kept_to}
 pub use Rattle.std.proofs.Math.Bool.{or-true}
+pub use Rattle.rollout_machine.proofs.Words.{action_if, actions_of_rollout, added_artifacts, group_is_started, group_reply, groups_shown, rollouts_shown, seen}
+pub use Rattle.rollout_machine.proofs.Words.{size_of_group, target_if, targets_matching, targets_shown, word_by_last}
+pub use Rattle.rollout_machine.specs.StateWords.{started_actions_of}
+pub use Rattle.rollout_machine.specs.Ranges.{numbered}

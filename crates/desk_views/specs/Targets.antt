@@ -3,7 +3,7 @@ use Rattle.std.specs.Prelude.{◌≡◌, ◌-◌, List, filter, length, map, sli
 use Rattle.std.specs.Option.{IsSomeAnd}
 use Rattle.rollout_machine.specs.Commands.{Bytes}
 use Rattle.rollout_machine.specs.Filters.{matches}
-use Rattle.rollout_machine.specs.Objects.{page_of, targets_shown}
+use Rattle.rollout_machine.specs.Objects.{page_of, target_shown}
 use Rattle.rollout_machine.specs.Records.{Records}
 use Rattle.rollout_machine.specs.Replies.{ShownTarget as TargetShown}
 use Rattle.rollout_machine.specs.Requests.{Page}
@@ -19,11 +19,11 @@ worded r t = record { id = t.id; name = t.name; tags = t.tags; attributes = t.at
 
 -- the targets that match, as they are shown
 abbrev pub matching_shown : Records → Tree → List TargetShown
-matching_shown r f = targets_shown r (filter (matches f) r.targets)
+matching_shown r f = map (target_shown r) (filter (matches f) r.targets)
 
 -- these targets are those on the page of all
 abbrev pub IsContentOf : Page → Records → List ShownTarget → Type 0
-IsContentOf page r items = map shown_target items ≡ (page_of page (targets_shown r r.targets)).content
+IsContentOf page r items = map shown_target items ≡ (page_of page (map (target_shown r) r.targets)).content
 
 -- the first and the last of these ids
 pub record AreEnds (ids : List Bytes) (first last : Bytes) : Type 0 where

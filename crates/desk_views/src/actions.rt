@@ -5,16 +5,18 @@ ghost use Rattle.std.specs.Option.{option_map};
 ghost use Rattle.rollout_machine.specs.Answers.{action_of_target};
 ghost use Rattle.rollout_machine.specs.ByteStrings.{item_numbered};
 ghost use Rattle.rollout_machine.specs.Groups.{holds_position};
-ghost use Rattle.rollout_machine.specs.Objects.{actions_of_target, entry_shown, numbered};
+ghost use Rattle.rollout_machine.specs.Objects.{actions_of_target, entry_shown};
+ghost use Rattle.rollout_machine.specs.Ranges.{numbered};
 ghost use Rattle.rollout_machine.specs.Replies.{ShownAction};
 ghost use Rattle.rollout_machine.specs.StateWords.{group_holding};
 ghost use Rattle.rollout_machine.specs.Requests.{ShowAction, ShowActionsTable, ShowHistory, ShowTargetActions};
 ghost use Rattle.desk_records.specs.Actions.{history_of};
-ghost use Rattle.desk_views.specs.Actions.{entry_by, listed_shown, number_at, reports_of, shown_among, shown_in, stored_in};
+ghost use Rattle.desk_views.specs.private.Actions.{entry_by, listed_shown, number_at, reports_of, shown_among, shown_in, stored_in};
 ghost use Rattle.desk_reads.specs.AtLists.{FailsAtListsIn, FindsAtListsIn};
 ghost use Rattle.desk_views.specs.Showing.{ShowsIn};
 ghost use Rattle.sql_calls.specs.declared.fault.Fault.TheVariants.{Broken, Memory};
-ghost use Rattle.desk_store.specs.Rows.{IfRowsBroken};
+ghost use Rattle.desk_store.specs.Counting.{RunsIn};
+ghost use Rattle.desk_store.specs.private.Rows.{IfRowsBroken};
 ghost use Rattle.desk_store.specs.Changing.{FindsIn, StaysIn};
 
 use campaign_core::{ActionStatus, action_word};
@@ -83,7 +85,7 @@ pub fn show_actions_table<S: Alter>(
     ensures stays { StaysIn S.Store change.old change.new result }
     ensures shows { ShowsIn S.Store change.old change.new (ShowActionsTable number) result }
     ensures fails { FailsAtListsIn S.Store change.old change.new result }
-    ensures work { change.new.store.now.calls.work.statements ≤ change.old.store.now.calls.work.statements + 3 }
+    ensures work { RunsIn 3 change.old change.new }
 {
     if change.read_rollout(number)?.is_none() {
         return Ok(Reply::Refused(Refusal::NotFound));

@@ -8,11 +8,11 @@ ghost use Rattle.rollout_machine.specs.ByteStrings.{item_numbered};
 ghost use Rattle.rollout_machine.specs.Requests.{ShowArtifacts, ShowArtifact, ShowContents};
 ghost use Rattle.rollout_machine.specs.Views.{reply_of};
 ghost use Rattle.desk_reads.specs.AtLists.{FailsAtListsIn, FailsWith};
-ghost use Rattle.desk_views.specs.Contents.{contents_found};
+ghost use Rattle.desk_views.specs.private.Contents.{contents_found};
 ghost use Rattle.rollout_model.specs.Limits.{limits};
 ghost use Rattle.rollout_model.specs.Rules.{is_contents};
 ghost use Rattle.sql_calls.specs.declared.fault.Fault.TheVariants.{Broken, Memory};
-ghost use Rattle.desk_store.specs.Rows.{IfRowsBroken};
+ghost use Rattle.desk_store.specs.private.Rows.{IfRowsBroken};
 ghost use Rattle.desk_views.specs.Sizes.{AgreesIn, IsArtifactOf, KeepsSize};
 ghost use Rattle.desk_store.specs.Changing.{FindsIn, StaysIn};
 

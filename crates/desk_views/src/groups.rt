@@ -6,14 +6,14 @@ ghost use Rattle.rollout_machine.specs.Commands.{RolloutPlan};
 ghost use Rattle.rollout_machine.specs.GroupRules.{rule_at, rules_of};
 ghost use Rattle.rollout_machine.specs.Objects.{group_shown, page_of};
 ghost use Rattle.rollout_machine.specs.Requests.{ShowGroup, ShowGroupTargets, ShowGroups};
-ghost use Rattle.rollout_machine.specs.StateWords.{size_of_group};
+ghost use Rattle.rollout_machine.specs.Groups.{size_of_bounds};
 ghost use Rattle.rollout_machine.specs.Views.{listed};
 ghost use Rattle.rollout_machine.specs.declared.records.RolloutRecord.{RolloutRecord};
 ghost use Rattle.desk_reads.specs.AtLists.{FailsAtListsIn, FailsWith};
 ghost use Rattle.desk_reads.specs.Rollouts.{IsSeenOf};
 ghost use Rattle.sql_calls.specs.declared.fault.Fault.TheVariants.{Broken};
-ghost use Rattle.desk_store.specs.Rows.{IfRowsBroken};
-ghost use Rattle.desk_views.specs.Groups.{HasUnshown, IsGroupOf};
+ghost use Rattle.desk_store.specs.private.Rows.{IfRowsBroken};
+ghost use Rattle.desk_views.specs.private.Groups.{HasUnshown, IsGroupOf};
 ghost use Rattle.desk_views.specs.Showing.{ShowsIn};
 ghost use Rattle.desk_store.specs.Changing.{FindsIn, StaysIn};
 
@@ -111,7 +111,7 @@ pub fn show_group_targets<S: Alter>(
 
 /// The members of a group that are on a page, as a page of all members of its rollout.
 fn members_on(group: &GroupRecord, total: u32, page: Page) -> Page
-    ensures offset { page.offset < total → total ≡ size_of_group group.now → result.offset ≡ group.now.bounds.first - 1 + page.offset }
+    ensures offset { page.offset < total → total ≡ size_of_bounds group.now.bounds → result.offset ≡ group.now.bounds.first - 1 + page.offset }
     ensures limit { result.limit ≡ min page.limit (total - page.offset) }
 {
     let Bounds { first, last } = group.bounds;
@@ -124,7 +124,7 @@ fn members_on(group: &GroupRecord, total: u32, page: Page) -> Page
 
 /// How many members a group has. Where they are more than are counted, the store has failed.
 fn count_of(group: &GroupRecord) -> Result<u32, Fault>
-    ensures { MatchResult result (λ size. size ≡ size_of_group group.now) (λ fault. (fault ≡ Broken) × (2 ^ 32 ≤ size_of_group group.now)) }
+    ensures { MatchResult result (λ size. size ≡ size_of_bounds group.now.bounds) (λ fault. (fault ≡ Broken) × (2 ^ 32 ≤ size_of_bounds group.now.bounds)) }
 {
     match u32::try_from(size_of(group)) {
         Ok(size) => Ok(size),
@@ -189,7 +189,7 @@ fn rule_of(rules: &[GroupRule], number: u32) -> Result<GroupRule, Fault>
 fn shown_in(seen: &SeenRollout, rule: GroupRule, group: &GroupRecord) -> Result<Group, Fault>
     ensures ok { IfOk result (λ shown. (x : RolloutRecord) → IsSeenOf seen.now x → rule ≡ rule_at x.plan group.now.number
         → shown ≡ group_shown x group.now) }
-    ensures err { IfErr result (λ fault. (fault ≡ Broken) × (2 ^ 32 ≤ size_of_group group.now)) }
+    ensures err { IfErr result (λ fault. (fault ≡ Broken) × (2 ^ 32 ≤ size_of_bounds group.now.bounds)) }
 {
     let size = count_of(group)?;
     let GroupRecord {

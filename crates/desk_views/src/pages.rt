@@ -4,13 +4,14 @@ ghost use Rattle.std.specs.Prelude.{◌≡◌, ◌≤◌, ◌-◌, ◌^◌, ℕ,
 ghost use Rattle.std.specs.Option.{option_map};
 ghost use Rattle.rollout_machine.specs.ByteStrings.{item_numbered};
 ghost use Rattle.rollout_machine.specs.CommandList.{CommandList};
-ghost use Rattle.rollout_machine.specs.Objects.{numbered, page_of};
+ghost use Rattle.rollout_machine.specs.Objects.{page_of};
+ghost use Rattle.rollout_machine.specs.Ranges.{numbered};
 ghost use Rattle.rollout_machine.specs.Records.{Records, records};
 ghost use Rattle.rollout_machine.specs.Validity.{IsValid};
 ghost use Rattle.rollout_machine.specs.Views.{listed};
 ghost use Rattle.desk_reads.specs.AtLists.{AreOfList, FailsAtListsIn, FailsWith};
 ghost use Rattle.desk_store.specs.Changing.{FindsIn, StaysIn};
-ghost use Rattle.desk_store.specs.Rows.{IfRowsBroken};
+ghost use Rattle.desk_store.specs.private.Rows.{IfRowsBroken};
 
 use desk_store::{Fault, OpenChange};
 use rollout_model::{Number, Page, PageOf};

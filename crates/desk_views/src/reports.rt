@@ -8,8 +8,8 @@ ghost use Rattle.rollout_machine.specs.Views.{report};
 ghost use Rattle.rollout_machine.specs.declared.records.RolloutRecord.{RolloutRecord};
 ghost use Rattle.desk_reads.specs.AtLists.{FailsAtListsIn};
 ghost use Rattle.desk_reads.specs.Rollouts.{IsSeenOf};
-ghost use Rattle.desk_store.specs.Rows.{IfRowsBroken};
-ghost use Rattle.desk_views.specs.Groups.{HasUnshown};
+ghost use Rattle.desk_store.specs.private.Rows.{IfRowsBroken};
+ghost use Rattle.desk_views.specs.private.Groups.{HasUnshown};
 ghost use Rattle.desk_views.specs.Showing.{ShowsIn};
 ghost use Rattle.desk_store.specs.Changing.{StaysIn};
 

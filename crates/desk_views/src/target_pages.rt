@@ -1,6 +1,6 @@
 //! Pages of targets: of all, or of those that match a filter.
 
-ghost use Rattle.std.specs.Prelude.{◌≡◌, ◌≤◌, ◌+◌, [], drop, map, take, true, MatchOption, Some, None};
+ghost use Rattle.std.specs.Prelude.{◌≡◌, [], drop, map, take, true, MatchOption, Some, None};
 ghost use Rattle.rollout_machine.specs.Answers.{query_reply};
 ghost use Rattle.rollout_machine.specs.Objects.{page_of};
 ghost use Rattle.rollout_machine.specs.Requests.{ShowTargets};
@@ -12,6 +12,7 @@ ghost use Rattle.desk_views.specs.Targets.{AreEnds, IsContentOf, matching_shown,
 ghost use Rattle.desk_records.specs.Targets.{ids_of, in_byte_order};
 ghost use Rattle.desk_reads.specs.Targets.{listed_ids, target_listed};
 ghost use Rattle.desk_store.specs.Changing.{FindsIn, StaysIn};
+ghost use Rattle.desk_store.specs.Counting.{RunsIn};
 
 use crate::pages::total_of;
 use crate::targets::{read_targets, with_word};
@@ -60,7 +61,7 @@ pub fn read_target_ids<S: Alter>(change: &mut OpenChange<'_, S>) -> Result<Vec<C
     ensures stays { StaysIn S.Store change.old change.new result }
     ensures reads { FindsIn S.Store change.old change.new result (λ now ids. ids.items ≡ ids_of now.targets) }
     ensures fails { FailsAtListsIn S.Store change.old change.new result }
-    ensures work { change.new.store.now.calls.work.statements ≤ change.old.store.now.calls.work.statements + 1 }
+    ensures work { RunsIn 1 change.old change.new }
 {
     let ids = change.read_target_ids()?;
     Ok(ids)

@@ -1,11 +1,12 @@
 //! The words of targets: what their actions say of their software.
 
-ghost use Rattle.std.specs.Prelude.{◌≡◌, ◌≤◌, ◌+◌, true};
+ghost use Rattle.std.specs.Prelude.{◌≡◌, true};
 ghost use Rattle.rollout_machine.specs.StateWords.{target_word};
 ghost use Rattle.campaign_core.specs.StatusWords.{target_word_from};
 ghost use Rattle.desk_reads.specs.AtLists.{FailsAtListsIn};
-ghost use Rattle.desk_views.specs.TargetWords.{ending_of, has_begun, is_begun, last_ended};
+ghost use Rattle.desk_views.specs.private.TargetWords.{ending_of, has_begun, is_begun, last_ended};
 ghost use Rattle.desk_store.specs.Changing.{FindsIn, StaysIn};
+ghost use Rattle.desk_store.specs.Counting.{RunsIn};
 
 use campaign_core::{TargetStatus, target_word};
 use desk_store::{Fault, OpenChange, StoredAction};
@@ -22,7 +23,7 @@ pub(crate) fn read_target_word<S: Alter>(
     ensures stays { StaysIn S.Store change.old change.new result }
     ensures reads { FindsIn S.Store change.old change.new result (λ now word. word ≡ target_word now id.now) }
     ensures fails { FailsAtListsIn S.Store change.old change.new result }
-    ensures work { change.new.store.now.calls.work.statements ≤ change.old.store.now.calls.work.statements + 3 }
+    ensures work { RunsIn 3 change.old change.new }
 {
     let status = read_status(change, id)?;
     Ok(target_word(&status))
@@ -37,7 +38,7 @@ fn read_status<S: Alter>(
     ensures stays { StaysIn S.Store change.old change.new result }
     ensures reads { FindsIn S.Store change.old change.new result (λ now status. target_word_from status ≡ target_word now id.now) }
     ensures fails { FailsAtListsIn S.Store change.old change.new result }
-    ensures work { change.new.store.now.calls.work.statements ≤ change.old.store.now.calls.work.statements + 3 }
+    ensures work { RunsIn 3 change.old change.new }
 {
     if change.read_offer(id)?.is_some() {
         return Ok(TargetStatus {
@@ -61,7 +62,7 @@ fn read_last_ending<S: Alter>(
     ensures reads { FindsIn S.Store change.old change.new result
         (λ now last. (has_begun now (last_ended now id.now) ≡ true) × (last ≡ ending_of (last_ended now id.now))) }
     ensures fails { FailsAtListsIn S.Store change.old change.new result }
-    ensures work { change.new.store.now.calls.work.statements ≤ change.old.store.now.calls.work.statements + 2 }
+    ensures work { RunsIn 2 change.old change.new }
 {
     let Some(listed) = change.read_last_ended(id)? else {
         return Ok(None);
@@ -80,7 +81,7 @@ fn read_is_begun<S: Alter>(
     ensures stays { StaysIn S.Store change.old change.new result }
     ensures reads { FindsIn S.Store change.old change.new result (λ now begun. begun ≡ is_begun now action.now) }
     ensures fails { FailsAtListsIn S.Store change.old change.new result }
-    ensures work { change.new.store.now.calls.work.statements ≤ change.old.store.now.calls.work.statements + 1 }
+    ensures work { RunsIn 1 change.old change.new }
 {
     match change.read_holding_group(action.rollout, action.position)? {
         Some(group) => Ok(group.started),

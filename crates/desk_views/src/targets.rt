@@ -1,15 +1,16 @@
 //! Targets, one at a time.
 
-ghost use Rattle.std.specs.Prelude.{◌≡◌, ◌≤◌, ◌+◌, ◌++◌, map};
-ghost use Rattle.std.specs.Option.{option_map};
-ghost use Rattle.rollout_machine.specs.Answers.{query_reply, target_if, targets_of};
-ghost use Rattle.rollout_machine.specs.Objects.{target_shown, targets_shown};
+ghost use Rattle.std.specs.Prelude.{◌≡◌, ◌+◌, ◌++◌, map};
+ghost use Rattle.std.specs.Option.{option_map, option_to_list};
+ghost use Rattle.rollout_machine.specs.Answers.{query_reply, targets_of};
+ghost use Rattle.rollout_machine.specs.Objects.{target_shown};
 ghost use Rattle.rollout_machine.specs.Requests.{ShowTarget};
 ghost use Rattle.rollout_machine.specs.Verdicts.{target_of};
 ghost use Rattle.rollout_machine.specs.Views.{reply_of, shown_target};
 ghost use Rattle.desk_reads.specs.AtLists.{FailsAtListsIn};
 ghost use Rattle.desk_views.specs.Targets.{worded};
 ghost use Rattle.desk_store.specs.Changing.{FindsIn, StaysIn};
+ghost use Rattle.desk_store.specs.Counting.{RunsIn};
 
 use crate::target_words::read_target_word;
 use desk_reads::read_listed;
@@ -61,7 +62,7 @@ pub(crate) fn read_targets<S: Alter>(
 ) -> Result<Vec<ShownTarget>, Fault>
     ensures stays { StaysIn S.Store change.old change.new result }
     ensures reads { FindsIn S.Store change.old change.new result
-        (λ now content. map shown_target content.items ≡ targets_shown now (targets_of now ids.now)) }
+        (λ now content. map shown_target content.items ≡ map (target_shown now) (targets_of now ids.now)) }
     ensures fails { FailsAtListsIn S.Store change.old change.new result }
 {
     let mut content = Vec::new(alloc);
@@ -79,7 +80,7 @@ fn add_target<S: Alter>(
 ) -> Result<(), Fault>
     ensures stays { StaysIn S.Store change.old change.new result }
     ensures reads { FindsIn S.Store change.old change.new result
-        (λ now _. map shown_target content.new.items ≡ map shown_target content.old.items ++ targets_shown now (target_if (target_of now id))) }
+        (λ now _. map shown_target content.new.items ≡ map shown_target content.old.items ++ map (target_shown now) (option_to_list (target_of now id))) }
     ensures fails { FailsAtListsIn S.Store change.old change.new result }
 {
     let shown = match read_shown(change, id)? {
@@ -106,7 +107,7 @@ pub(crate) fn with_word<S: Alter>(
     ensures stays { StaysIn S.Store change.old change.new result }
     ensures reads { FindsIn S.Store change.old change.new result (λ now shown. shown ≡ worded now target) }
     ensures fails { FailsAtListsIn S.Store change.old change.new result }
-    ensures work { change.new.store.now.calls.work.statements ≤ change.old.store.now.calls.work.statements + 3 }
+    ensures work { RunsIn 3 change.old change.new }
 {
     let word = read_target_word(change, &target.id)?;
     Ok(shown_as(target, word))

@@ -13,13 +13,13 @@ pub use Rattle.std.specs.Option.{is_some, option_to_list}
 pub use Rattle.std.specs.Str.Parse.{digits_value}
 pub use Rattle.memchr.specs.Find.{FindsNeedle, OccursAt, is_byte, places}
 pub use Rattle.rollout_model.specs.Limits.{limits}
-pub use Rattle.http_wire.specs.BodyLengths.{body_length, is_digits, length_by, length_of, unless_coded}
+pub use Rattle.http_wire.specs.BodyLengths.{body_length, is_digits, length_by, length_of}
 pub use Rattle.http_wire.specs.Faults.{BadCoding, BadHead, BadLength, Cut, End, Fault, HeadTooLarge, Input, TooLarge, WireFault}
-pub use Rattle.http_wire.specs.Fields.{fields_named, is_named, sole_value}
-pub use Rattle.http_wire.specs.Heads.{FieldLine, HeadParts, IsFieldLine, IsOriginForm, NameAndValue, SpellsHead, is_target_byte, line_text, name_and_value}
+pub use Rattle.http_wire.specs.Fields.{fields_named, is_named, value_of_one}
+pub use Rattle.http_wire.specs.Heads.{FieldLine, HeadParts, IsOriginForm, NameAndValue, SpellsHead, is_target_byte, name_and_value}
 pub use Rattle.http_wire.specs.Inbox.{StandsInFront, HandsOut, field_view, message_of}
 pub use Rattle.http_wire.specs.Messages.{IsBadRegion, IsFault, IsHeadWith, IsMessage, IsUndecided, WireMessage}
-pub use Rattle.http_wire.specs.Parse.{IsHeadAt, IsStrict, is_no_line_break, lf_follows_cr}
+pub use Rattle.http_wire.specs.private.Parse.{IsHeadAt, IsStrict, is_no_line_break, lf_follows_cr}
 pub use Rattle.http_wire.specs.Regions.{AreLines, HasFewFields, HasLines, HasNoRegion, HasRegion, IsHeadEndAt, line_ends}
 pub use Rattle.http_wire.specs.Streams.{Begins, EndsAs, HasMessages}
 pub use Rattle.http_wire.specs.declared.message.Field.{Field}

@@ -1,6 +1,7 @@
 -- Computed examples: they guard the definitions against slips.
 use Rattle.http_wire.proofs.Common.{◌≡◌, ℕ, ◌+◌, true, false, List, [], ◌∷◌, ◌++◌, Some, None, refl, codes, decimal, replicate, map, Ok, Err, flat_map}
-use Rattle.http_wire.proofs.Common.{limits, TooLarge, BadLength, BadCoding, line_ends, sole_value}
+use Rattle.http_wire.proofs.Common.{fields_named, value_of_one}
+use Rattle.http_wire.proofs.Common.{limits, TooLarge, BadLength, BadCoding, line_ends}
 use Rattle.std.specs.Fmt.{digits}
 use Rattle.httparse.specs.Grammar.{trim_ows}
 use Rattle.rollout_model.specs.declared.Refusal.TheVariants as refusals
@@ -79,10 +80,10 @@ path_only = (refl, refl)
 path_and_query : (path_of (codes "/a?b?c") ≡ codes "/a") × (query_text (codes "/a?b?c") ≡ codes "b?c")
 path_and_query = (refl, refl)
 
-one_of_name : sole_value (codes "authorization") ((codes "a", []) ∷ (codes "Authorization", codes "x") ∷ []) ≡ Some (codes "x")
+one_of_name : value_of_one (fields_named (codes "authorization") ((codes "a", []) ∷ (codes "Authorization", codes "x") ∷ [])) ≡ Some (codes "x")
 one_of_name = refl
 
-two_of_name : sole_value (codes "a") ((codes "a", []) ∷ (codes "A", codes "x") ∷ []) ≡ None
+two_of_name : value_of_one (fields_named (codes "a") ((codes "a", []) ∷ (codes "A", codes "x") ∷ [])) ≡ None
 two_of_name = refl
 
 -- ---- replies

@@ -1,10 +1,13 @@
 -- The strict heads are those of httparse's grammar in which each LF follows a CR, apart empty line comes
 -- first, the version is 1.1 and the target is in origin form.
-use Rattle.http_wire.proofs.Common.{◌≡◌, ◌≢◌, ℕ, Bool, ◌+◌, ◌<◌, ◌≤◌, true, cond, eqb, List, [], ◌∷◌, ◌++◌, map, length, get_or, take, drop, refl, sym, ap, ◌∙◌}
+use Rattle.http_wire.proofs.Common.{◌≡◌, ◌≢◌, ℕ, Bool, ◌+◌, ◌<◌, ◌≤◌, true, cond, eqb, ◌==◌, ◌||◌, List, [], ◌∷◌, ◌++◌, codes, map, length, get_or, take, drop}
+use Rattle.http_wire.proofs.Common.{refl, sym, ap, ◌∙◌}
 use Rattle.http_wire.proofs.Common.{subst, arith, append_assoc, inl, inr, IsAscii, All, flat_map, and_parts, and_from, eqb-true, cases_lt, not_from_false}
-use Rattle.http_wire.proofs.Common.{ne_eqb, false≢true, append-nil, get_or_past, length-map, drop_all, limits, FieldLine, HeadParts, line_text}
-use Rattle.http_wire.proofs.Common.{IsOriginForm, IsFieldLine, SpellsHead, name_and_value, line_ends, HasFewFields, lf_follows_cr, is_no_line_break, IsStrict}
+use Rattle.http_wire.proofs.Common.{ne_eqb, false≢true, append-nil, get_or_past, length-map, drop_all, limits, FieldLine, HeadParts}
+use Rattle.http_wire.proofs.Common.{IsOriginForm, SpellsHead, name_and_value, line_ends, HasFewFields, lf_follows_cr, is_no_line_break, IsStrict}
 use Rattle.http_wire.proofs.Common.{IsHeadAt}
+use Rattle.std.specs.List.{list_any}
+use Rattle.std.specs.Int.{is_in_range}
 use Rattle.std.proofs.lemmas.Bool.Decides.{nat_tests}
 use Rattle.std.proofs.lemmas.List.Elements.{All-head, All-tail, All-weaker, All-map}
 use Rattle.std.proofs.lemmas.Str.{IsUtf8-from_ascii}
@@ -15,6 +18,7 @@ use Rattle.httparse.specs.declared.spans.RequestSpans.{RequestSpans}
 use Rattle.httparse.specs.declared.spans.HeaderSpan.{HeaderSpan}
 use Rattle.httparse.proofs.GrammarLemmas.{print_request-append, cons-append}
 use Rattle.http_wire.specs.Heads.{head_text, is_target_byte}
+use Rattle.httparse.specs.Ascii.{colon, crlf_bytes}
 
 -- ---- between the two trees
 
@@ -38,9 +42,9 @@ as_request h = record {
 abbrev pub parts_of : RequestHead → HeadParts
 parts_of r = record { method = r.method; target = r.target; lines = map line_of r.fields }
 
-same_lines : (ls : List FieldLine) → flat_map print_field (map field_of ls) ≡ flat_map line_text ls
+same_lines : (ls : List FieldLine) → flat_map print_field (map field_of ls) ≡ flat_map (λ (l : FieldLine). l.name ++ colon ∷ l.raw ++ crlf_bytes) ls
 same_lines [] = refl
-same_lines (l ∷ ls) = ap (λ t. line_text l ++ t) (same_lines ls)
+same_lines (l ∷ ls) = ap (λ t. (l.name ++ colon ∷ l.raw ++ crlf_bytes) ++ t) (same_lines ls)
 
 pub request_text : (h : HeadParts) → print_request (as_request h) ≡ head_text h
 unfolding print_request head_text
@@ -51,6 +55,12 @@ same_names [] = refl
 same_names (l ∷ ls) = ap (λ t. name_and_value l ∷ t) (same_names ls)
 
 -- ---- classes of bytes
+
+-- the ranges in the order of the codes, which the code tests, and the marks between them
+pub is_target_byte_by_ranges : (b : ℕ) → is_target_byte b
+    ≡ (((is_in_range 97 122 b || is_in_range 63 90 b) || is_in_range 36 59 b) || list_any (λ c. c == b) (codes "!=_~"))
+unfolding is_target_byte
+is_target_byte_by_ranges b = grind (arith, nat_tests)
 
 target_is_uri : (b : ℕ) → is_target_byte b ≡ true → (is_uri_byte b ≡ true) × (b < 128)
 unfolding is_target_byte
@@ -89,17 +99,21 @@ no_breaks P apart bytes = All-weaker (λ b. P b ≡ true) (λ b. (b ≢ 13) × (
 line_regroup : (n r e f rest : List ℕ) → ((n ++ 58 ∷ r ++ e) ++ f) ++ rest ≡ n ++ 58 ∷ (r ++ (e ++ (f ++ rest)))
 line_regroup n r e f rest = simp (append_assoc, cons-append)
 
+-- the form of a field as it stands
+abbrev IsFieldLine : FieldLine → Type 0
+IsFieldLine l = IsToken l.name × AllPass is_value_byte l.raw
+
 lines_pass : (ls : List FieldLine) (rest : List ℕ) → All IsFieldLine ls → ((q : ℕ) → lf_follows_cr q rest ≡ true)
     → (q : ℕ) → lf_follows_cr q (flat_map print_field (map field_of ls) ++ rest) ≡ true
 lines_pass [] rest fine after q = after q
 lines_pass (l ∷ ls) rest fine after q =
-    let here = All-head IsFieldLine l ls fine in
+    let here : IsFieldLine l = All-head IsFieldLine l ls fine in
     let tail = flat_map print_field (map field_of ls) in
     let next : (p : ℕ) → lf_follows_cr p (13 ∷ 10 ∷ (tail ++ rest)) ≡ true = λ p. lines_pass ls rest (All-tail IsFieldLine l ls fine) after 10 in
     let value : (p : ℕ) → lf_follows_cr p (58 ∷ (l.raw ++ 13 ∷ 10 ∷ (tail ++ rest))) ≡ true =
-    λ p. lf_passes l.raw _ 58 (no_breaks is_value_byte value_no_break l.raw here.raw) next in
+    λ p. lf_passes l.raw _ 58 (no_breaks is_value_byte value_no_break l.raw here.1) next in
     ap (lf_follows_cr q) (line_regroup l.name l.raw (print_end crlf) tail rest)
-    ∙ lf_passes l.name _ q (no_breaks is_token_byte token_no_break l.name here.name.1) value
+    ∙ lf_passes l.name _ q (no_breaks is_token_byte token_no_break l.name here.0.1) value
 
 -- the text of a strict head, nested to the right
 abbrev nested : (method target : List ℕ) (end : LineEnd) (fields : List Field) (last : LineEnd) → List ℕ
@@ -108,7 +122,7 @@ nested method target end fields last =
 
 pub spelled_text : (region : List ℕ) (h : HeadParts) → SpellsHead region h → region ≡ nested h.method h.target crlf (map field_of h.lines) crlf
 spelled_text region h s =
-    s.1 ∙ sym (request_text h) ∙ sym (append-nil (print_request (as_request h))) ∙ print_request-append (as_request h) []
+    s.text ∙ sym (request_text h) ∙ sym (append-nil (print_request (as_request h))) ∙ print_request-append (as_request h) []
     ∙ ap (λ t. h.method ++ 32 ∷ (h.target ++ 32 ∷ (print_version 1 ++ (print_end crlf ++ t))))
     (append_assoc (flat_map print_field (map field_of h.lines)) (print_end crlf) [])
 
@@ -129,14 +143,14 @@ not_empty (b ∷ bs) e = omega arith
 pub spelled_reads : (region : List ℕ) (h : HeadParts) → SpellsHead region h → ReadsRequest region (as_request h) []
 spelled_reads region h s = (
   record {
-    method = s.0.method;
-    target = (not_empty h.target s.0.target.0, uri_of_target h.target s.0.target.1);
-    target_text = IsUtf8-from_ascii h.target (target_ascii h.target s.0.target.1);
+    method = s.method;
+    target = (not_empty h.target s.target.0, uri_of_target h.target s.target.1);
+    target_text = IsUtf8-from_ascii h.target (target_ascii h.target s.target.1);
     minor = omega arith;
     fields = All-map IsField field_of h.lines
-        (All-weaker IsFieldLine (λ l. IsField (field_of l)) (λ l x. record { name = x.name; raw = x.raw }) h.lines s.0.lines);
+        (All-weaker IsFieldLine (λ l. IsField (field_of l)) (λ l x. record { name = x.0; raw = x.1 }) h.lines s.lines);
   },
-  s.1 ∙ sym (request_text h) ∙ sym (append-nil (print_request (as_request h))),
+  s.text ∙ sym (request_text h) ∙ sym (append-nil (print_request (as_request h))),
 )
 
 -- in which each LF follows a CR
@@ -144,11 +158,11 @@ pub spelled_pairs : (region : List ℕ) (h : HeadParts) → SpellsHead region h 
 spelled_pairs region h s =
     let fields = map field_of h.lines in
     let rest = print_end crlf ++ [] in
-    let section : (q : ℕ) → lf_follows_cr q (flat_map print_field fields ++ rest) ≡ true = lines_pass h.lines rest s.0.lines (λ q. refl) in
+    let section : (q : ℕ) → lf_follows_cr q (flat_map print_field fields ++ rest) ≡ true = lines_pass h.lines rest s.lines (λ q. refl) in
     let version : (q : ℕ) → lf_follows_cr q (32 ∷ (print_version 1 ++ (print_end crlf ++ (flat_map print_field fields ++ rest)))) ≡ true = λ q. section 10 in
     let target : (q : ℕ) → lf_follows_cr q (32 ∷ (h.target ++ 32 ∷ (print_version 1 ++ (print_end crlf ++ (flat_map print_field fields ++ rest))))) ≡ true =
-    λ q. lf_passes h.target _ 32 (no_breaks is_uri_byte target_no_break h.target (uri_of_target h.target s.0.target.1)) version in
-    ap (lf_follows_cr 0) (spelled_text region h s) ∙ lf_passes h.method _ 0 (no_breaks is_token_byte token_no_break h.method s.0.method.1) target
+    λ q. lf_passes h.target _ 32 (no_breaks is_uri_byte target_no_break h.target (uri_of_target h.target s.target.1)) version in
+    ap (lf_follows_cr 0) (spelled_text region h s) ∙ lf_passes h.method _ 0 (no_breaks is_token_byte token_no_break h.method s.method.1) target
 
 first_of_token : (bytes rest : List ℕ) → IsToken bytes → is_no_line_break (get_or (bytes ++ rest) 0 0) ≡ true
 first_of_token [] rest t = absurd (omega (arith, t.0))
@@ -158,7 +172,7 @@ first_of_token (b ∷ bs) rest t = let apart = token_no_break b (All-head (λ b.
     no_break b apart = and_from _ _ (not_from_false _ (ne_eqb b 13 apart.0)) (not_from_false _ (ne_eqb b 10 apart.1))
 
 pub spelled_first : (region : List ℕ) (h : HeadParts) → SpellsHead region h → is_no_line_break (get_or region 0 0) ≡ true
-spelled_first region h s = ap (λ r. is_no_line_break (get_or r 0 0)) (spelled_text region h s) ∙ first_of_token h.method _ s.0.method
+spelled_first region h s = ap (λ r. is_no_line_break (get_or r 0 0)) (spelled_text region h s) ∙ first_of_token h.method _ s.method
 
 -- ---- how many fields
 
@@ -252,7 +266,7 @@ head_at region headers r within of room first pairs strict =
     let parts = parts_of h in
     let fields : All IsFieldLine parts.lines =
     All-map IsFieldLine line_of h.fields
-    (All-weaker IsField (λ f. IsFieldLine (line_of f)) (λ f x. record { name = x.name; raw = x.raw }) h.fields reads.0.fields) in
+    (All-weaker IsField (λ f. IsFieldLine (line_of f)) (λ f x. (x.name, x.raw)) h.fields reads.0.fields) in
     let len : r.len ≤ length region = within.section.len_fits in
     record {
       method = (within.method.0, omega (arith, within.method.1));
@@ -262,10 +276,12 @@ head_at region headers r within of room first pairs strict =
       head = record {
         few = room;
         head = parts;
-        spells = (
-          record { method = reads.0.method; target = subst IsOriginForm at.path strict.target; lines = fields },
-          reads.1 ∙ append-nil (print_request h) ∙ ap print_request (sym same) ∙ request_text parts,
-        );
+        spells = record {
+          method = reads.0.method;
+          target = subst IsOriginForm at.path strict.target;
+          lines = fields;
+          text = reads.1 ∙ append-nil (print_request h) ∙ ap print_request (sym same) ∙ request_text parts;
+        };
         method_is = at.method;
         target_is = at.path;
         fields_are = at.fields ∙ ap (map Spans.name_and_value) (sym (ap (λ (x : RequestHead). x.fields) same)) ∙ same_names parts.lines;

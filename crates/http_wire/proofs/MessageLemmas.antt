@@ -3,7 +3,7 @@ use Rattle.http_wire.proofs.Common.{◌≡◌, ℕ, ◌+◌, ◌<◌, ◌≤◌,
 use Rattle.http_wire.proofs.Common.{inl, inr, Result, Ok, Err, Option, Some, None, append-nil, ◌^◌, length-append, take_at, drop_at}
 use Rattle.http_wire.proofs.Common.{take-append-drop, length-take-le, cond_both, ltb-false, limits}
 use Rattle.http_wire.proofs.Common.{WireFault, TooLarge, BadHead, BadLength, HeadTooLarge, BadCoding, HasRegion, HasNoRegion, HasFewFields, line_ends}
-use Rattle.http_wire.proofs.Common.{FieldLine, HeadParts, SpellsHead, NameAndValue, name_and_value, length_of, length_by, unless_coded}
+use Rattle.http_wire.proofs.Common.{FieldLine, HeadParts, SpellsHead, NameAndValue, name_and_value, length_of, length_by}
 use Rattle.http_wire.proofs.Common.{WireMessage, IsHeadWith, IsMessage, IsBadRegion, IsFault, IsUndecided, Begins, HasMessages, EndsAs}
 use Rattle.http_wire.proofs.Common.{message_of, StandsInFront, HandsOut, End, Input, Cut, Fault}
 use Rattle.httparse.proofs.GrammarLemmas.{request_unique}
@@ -73,17 +73,15 @@ IsOfBody (Err f) = IsBodyFault f
 length_of_body : (text : List ℕ) → IsOfBody (length_of text)
 length_of_body text = grind (arith, cond_both, ltb-false)
 
-by_of_body : (fs : List NameAndValue) → IsOfBody (length_by fs)
-by_of_body [] = omega arith
-by_of_body (f ∷ []) = length_of_body f.1
-by_of_body (f ∷ g ∷ fs) = tt
-
-unless_of_body : (fs : List NameAndValue) (r : Result ℕ WireFault) → IsOfBody r → IsOfBody (unless_coded fs r)
-unless_of_body fs r h = grind arith
+by_of_body : (codings fs : List NameAndValue) → IsOfBody (length_by codings fs)
+by_of_body [] [] = omega arith
+by_of_body [] (f ∷ []) = length_of_body f.1
+by_of_body [] (f ∷ g ∷ fs) = tt
+by_of_body (coding ∷ codings) fs = tt
 
 of_body : (fields : List NameAndValue) (r : Result ℕ WireFault) → body_length fields ≡ r → IsOfBody r
 unfolding body_length
-of_body fields r is = grind (arith, unless_of_body, by_of_body)
+of_body fields r is = grind (arith, by_of_body)
 
 pub body_fault : (region m t : List ℕ) (fs : List NameAndValue) (f : WireFault) → IsHeadWith region m t fs → body_length fs ≡ Err f → IsBadRegion region f
 body_fault region m t fs HeadTooLarge head err = absurd (of_body fs _ err)

@@ -57,16 +57,16 @@ no_region bytes none region after h =
 end_of_needle : (bytes : List ℕ) (k : ℕ) → OccursAt bytes (codes "\r\n\r\n") k → IsHeadEndAt bytes k
 end_of_needle bytes k o =
     let at : (j i : ℕ) → k + j ≡ i → j < 4 → get_or bytes i 0 ≡ get_or (codes "\r\n\r\n") j 0 = λ j i e l. ap (λ p. get_or bytes p 0) (sym e) ∙ o.reads j l in
-    ((at 0 k (omega arith) (omega arith), at 1 (k + 1) refl (omega arith)), (at 2 (k + 2) refl (omega arith), at 3 (k + 2 + 1) (omega arith) (omega arith)))
+    (at 0 k (omega arith) (omega arith), at 1 (k + 1) refl (omega arith), at 2 (k + 2) refl (omega arith), at 3 (k + 3) refl (omega arith))
 
 needle_of_end : (bytes : List ℕ) (k : ℕ) → k + 4 ≤ length bytes → IsHeadEndAt bytes k → OccursAt bytes (codes "\r\n\r\n") k
 needle_of_end bytes k fits h = record { fits = fits; reads = at }
   where
     at : (j : ℕ) → j < 4 → get_or bytes (k + j) 0 ≡ get_or (codes "\r\n\r\n") j 0
-    at zero l = ap (λ p. get_or bytes p 0) (omega arith) ∙ h.0.0
-    at (suc zero) l = h.0.1
-    at (suc (suc zero)) l = h.1.0
-    at (suc (suc (suc zero))) l = ap (λ p. get_or bytes p 0) (omega arith) ∙ h.1.1
+    at zero l = ap (λ p. get_or bytes p 0) (omega arith) ∙ h.0
+    at (suc zero) l = h.1
+    at (suc (suc zero)) l = h.2
+    at (suc (suc (suc zero))) l = h.3
     at (suc (suc (suc (suc j)))) l = absurd (omega (arith, l))
 
 -- within the limit it stands first at the region's end, or nowhere

@@ -19,18 +19,14 @@ length_of text =
     then (if nat_lt limits.body_length (digits_value 10 text) then Err TooLarge else Ok (digits_value 10 text))
     else Err BadLength
 
--- the length by the fields content-length: none of them says 0, and two are a fault
-abbrev pub length_by : List NameAndValue → Result ℕ WireFault
-length_by [] = Ok 0
-length_by (f ∷ []) = length_of f.1
-length_by (f ∷ g ∷ fs) = Err BadLength
-
--- a field transfer-encoding is a fault, whatever the length
-abbrev pub unless_coded : List NameAndValue → Result ℕ WireFault → Result ℕ WireFault
-unless_coded [] r = r
-unless_coded (f ∷ fs) r = Err BadCoding
+-- the length by the fields transfer-encoding and content-length: one of the first is a fault, whatever the length; none of
+-- the second says 0, and two are a fault
+abbrev pub length_by : List NameAndValue → List NameAndValue → Result ℕ WireFault
+length_by [] [] = Ok 0
+length_by [] (f ∷ []) = length_of f.1
+length_by [] (f ∷ g ∷ fs) = Err BadLength
+length_by (coding ∷ codings) fs = Err BadCoding
 
 -- the length of the body behind a head with these fields
 unfoldable pub body_length : List NameAndValue → Result ℕ WireFault
-body_length fields =
-    unless_coded (fields_named (codes "transfer-encoding") fields) (length_by (fields_named (codes "content-length") fields))
+body_length fields = length_by (fields_named (codes "transfer-encoding") fields) (fields_named (codes "content-length") fields)

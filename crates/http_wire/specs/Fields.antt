@@ -16,7 +16,3 @@ abbrev pub value_of_one : List NameAndValue → Option (List ℕ)
 value_of_one [] = None
 value_of_one (f ∷ []) = Some f.1
 value_of_one (f ∷ g ∷ fs) = None
-
--- the value of the one field that has the name
-abbrev pub sole_value : List ℕ → List NameAndValue → Option (List ℕ)
-sole_value name fields = value_of_one (fields_named name fields)

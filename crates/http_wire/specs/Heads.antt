@@ -16,15 +16,11 @@ pub record HeadParts : Type 0 where
   pub target : List ℕ
   pub lines : List FieldLine
 
--- the name, a colon and the value, ended by CR LF
-abbrev pub line_text : FieldLine → List ℕ
-line_text l = l.name ++ colon ∷ l.raw ++ crlf_bytes
-
--- METHOD SP TARGET SP HTTP/1.1, the fields and the empty line
+-- METHOD SP TARGET SP HTTP/1.1, the fields, each its name, a colon and its value, and the empty line; CR LF ends each line
 unfoldable pub head_text : HeadParts → List ℕ
 head_text h =
     h.method ++ space ∷ h.target ++ space ∷ codes "HTTP/1.1" ++ crlf_bytes
-    ++ flat_map line_text h.lines ++ crlf_bytes
+    ++ flat_map (λ (l : FieldLine). l.name ++ colon ∷ l.raw ++ crlf_bytes) h.lines ++ crlf_bytes
 
 -- a byte of a target in origin form
 unfoldable pub is_target_byte : ℕ → Bool
@@ -34,20 +30,13 @@ is_target_byte b = is_ascii_alphanumeric b || list_any (λ c. c == b) (codes "/?
 abbrev pub IsOriginForm : List ℕ → Type 0
 IsOriginForm target = (slice_index target 0 ≡ 47) × AllPass is_target_byte target
 
--- a token, and tabs, spaces and visible bytes (RFC 9110, sections 5.1 and 5.5)
-pub record IsFieldLine (l : FieldLine) : Type 0 where
-  pub name : IsToken l.name
-  pub raw : AllPass is_value_byte l.raw
-
--- each part has its form
-pub record IsHead (h : HeadParts) : Type 0 where
+-- the region is the text of this head, each part of which has its form; that of a field's name is a token, and that of its value
+-- tabs, spaces and visible bytes (RFC 9110, sections 5.1 and 5.5)
+pub record SpellsHead (region : List ℕ) (h : HeadParts) : Type 0 where
   pub method : IsToken h.method
   pub target : IsOriginForm h.target
-  pub lines : All IsFieldLine h.lines
-
--- the region is the text of this head
-abbrev pub SpellsHead : List ℕ → HeadParts → Type 0
-SpellsHead region h = IsHead h × (region ≡ head_text h)
+  pub lines : All (λ (l : FieldLine). IsToken l.name × AllPass is_value_byte l.raw) h.lines
+  pub text : region ≡ head_text h
 
 -- a field's name and its value
 abbrev pub NameAndValue : Type 0

@@ -9,5 +9,5 @@ pub mod Fields
 pub mod Inbox
 pub mod Replies
 pub mod Watched
-pub mod Parse
 pub mod Fronts
+pub mod private

@@ -4,13 +4,11 @@ use Rattle.std.specs.List.{flat_map}
 use Rattle.httparse.specs.Ascii.{line_feed, carriage_return, crlf_bytes}
 use Rattle.rollout_model.specs.Limits.{limits}
 
--- CR LF stands at place k
-abbrev pub IsLineEndAt : List ℕ → ℕ → Type 0
-IsLineEndAt bytes k = (slice_index bytes k ≡ carriage_return) × (slice_index bytes (k + 1) ≡ line_feed)
-
 -- CR LF CR LF stands at place k
 abbrev pub IsHeadEndAt : List ℕ → ℕ → Type 0
-IsHeadEndAt bytes k = IsLineEndAt bytes k × IsLineEndAt bytes (k + 2)
+IsHeadEndAt bytes k =
+    (slice_index bytes k ≡ carriage_return) × (slice_index bytes (k + 1) ≡ line_feed)
+    × (slice_index bytes (k + 2) ≡ carriage_return) × (slice_index bytes (k + 3) ≡ line_feed)
 
 -- the bytes up to and with the first CR LF CR LF, and those after it
 pub record HasRegion (bytes region after : List ℕ) : Type 0 where

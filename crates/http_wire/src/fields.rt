@@ -1,8 +1,8 @@
 //! Fields by their names.
 ghost use Rattle.std.specs.Prelude.{◌≡◌, map, option_map};
-ghost use Rattle.http_wire.specs.Fields.{is_named, fields_named, sole_value};
+ghost use Rattle.http_wire.specs.Fields.{is_named, fields_named, value_of_one};
 ghost use Rattle.http_wire.specs.Inbox.{field_view};
-ghost use Rattle.http_wire.specs.Parse.{AreOfName};
+ghost use Rattle.http_wire.specs.private.Parse.{AreOfName};
 
 use crate::message::Field;
 
@@ -42,7 +42,7 @@ pub(crate) fn find_named<'a>(fields: &[Field<'a>], name: &[u8]) -> FieldsOfName<
 /// The value of the one field that has the name, whatever the case of ASCII letters; `None` where there is none or more
 /// than one.
 pub fn sole_value<'a>(fields: &[Field<'a>], name: &[u8]) -> Option<&'a [u8]>
-    ensures { option_map (λ value. value.now) result ≡ sole_value name.now (map field_view fields.now) }
+    ensures { option_map (λ value. value.now) result ≡ value_of_one (fields_named name.now (map field_view fields.now)) }
 {
     match find_named(fields, name) {
         FieldsOfName::Once(field) => Some(field.value),

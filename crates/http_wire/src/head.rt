@@ -1,9 +1,10 @@
 //! The head of a message, in its one strict form (RFC 9112, sections 3 and 5).
-ghost use Rattle.std.specs.Prelude.{◌≡◌, ℕ, ◌≤◌, ◌↔◌, true, List, length, slice_index, IsTrue, IfSome, IfNone};
-ghost use Rattle.std.specs.List.{list_all};
+ghost use Rattle.std.specs.Prelude.{◌≡◌, ℕ, ◌≤◌, ◌↔◌, ◌==◌, true, List, length, slice_index, codes, IsTrue, IfSome, IfNone};
+ghost use Rattle.std.specs.List.{list_all, list_any};
+ghost use Rattle.std.specs.Int.{is_in_range};
 ghost use Rattle.http_wire.specs.Regions.{HasFewFields};
 ghost use Rattle.http_wire.specs.Heads.{HeadParts, IsOriginForm, SpellsHead, is_target_byte};
-ghost use Rattle.http_wire.specs.Parse.{lf_follows_cr, is_no_line_break, IsStrict, IsHeadAt};
+ghost use Rattle.http_wire.specs.private.Parse.{lf_follows_cr, is_no_line_break, IsStrict, IsHeadAt};
 ghost use Rattle.httparse.specs.Spans.{IsWithin};
 
 use httparse::Status;
@@ -19,14 +20,28 @@ pub(crate) struct HeadSpans {
     pub(crate) field_count: usize,
 }
 
-#[tactic(auto, unfolding(crate::specs::Heads::is_target_byte))]
+/// Whether a byte is one of those from the first to the last.
+fn is_between(first: u8, last: u8, b: u8) -> bool
+    ensures { result ≡ is_in_range first last b }
+{
+    (first <= b) & (b <= last)
+}
+
+/// The marks of a target that no range of its bytes has.
+fn is_lone_mark(b: u8) -> bool
+    ensures { result ≡ list_any (λ c. c == b) (codes "!=_~") }
+{
+    matches!(b, b'!' | b'=' | b'_' | b'~')
+}
+
+#[tactic(auto, using(crate::proofs::HeadLemmas::is_target_byte_by_ranges))]
 fn is_target_byte(b: u8) -> bool
     ensures { result ≡ is_target_byte b }
 {
-    matches!(b, b'a'..=b'z')
-        | matches!(b, b'?'..=b'Z')
-        | matches!(b, b'$'..=b';')
-        | matches!(b, b'!' | b'=' | b'_' | b'~')
+    is_between(b'a', b'z', b)
+        | is_between(b'?', b'Z', b)
+        | is_between(b'$', b';', b)
+        | is_lone_mark(b)
 }
 
 /// Whether each byte may stand in a target. It goes on after one that may not, so that a compiler can test many at once.

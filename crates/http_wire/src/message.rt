@@ -5,7 +5,7 @@ ghost use Rattle.http_wire.specs.BodyLengths.{body_length};
 ghost use Rattle.http_wire.specs.Messages.{IsHeadWith, IsBadRegion};
 ghost use Rattle.http_wire.specs.Fronts.{StandsFirst};
 ghost use Rattle.http_wire.specs.Inbox.{field_view, message_of};
-ghost use Rattle.http_wire.specs.Parse.{fields_at};
+ghost use Rattle.http_wire.specs.private.Parse.{fields_at};
 
 use crate::body_length::body_length;
 use crate::fault::WireFault;

@@ -1,7 +1,7 @@
 //! Where the head of a message ends, and its lines.
 ghost use Rattle.std.specs.Prelude.{◌≡◌, ℕ, ◌≤◌, Bool, true, List, length, take, drop, IfSome, IfNone};
 ghost use Rattle.http_wire.specs.Regions.{HasRegion, HasNoRegion, line_ends};
-ghost use Rattle.http_wire.specs.Parse.{lf_follows_cr};
+ghost use Rattle.http_wire.specs.private.Parse.{lf_follows_cr};
 
 use memchr::{memchr_iter, memmem};
 use rollout_model::limits::HEAD_LENGTH_LIMIT;

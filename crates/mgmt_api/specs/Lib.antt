@@ -1,5 +1,4 @@
 pub mod Routes
-pub mod Table
 pub mod Turns
 pub mod Calls
 pub mod CancelQueries

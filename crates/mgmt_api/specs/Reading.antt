@@ -1,5 +1,5 @@
 -- What a message of the management interface asks.
-use Rattle.std.specs.Prelude.{◌≡◌, ◌⊎◌, ℕ, Bool, true, false, List, [], if◌then◌else◌, Option, Some, None, Result, Ok, Err, MatchResult}
+use Rattle.std.specs.Prelude.{◌≡◌, ◌⊎◌, ℕ, true, false, List, [], ◌∷◌, codes, if◌then◌else◌, Option, Some, None, Result, Ok, Err, MatchResult}
 use Rattle.std.specs.Prelude.{option_and_then, slice_get}
 use Rattle.std.specs.Option.{is_some}
 use Rattle.http_wire.specs.Messages.{WireMessage}
@@ -16,16 +16,18 @@ use Rattle.rollout_machine.specs.Requests.{ShowGroups, ShowGroup, ShowGroupTarge
 use Rattle.rollout_machine.specs.Views.{request_of}
 use Rattle.request_target.specs.Numbers.{decimal_number}
 use Rattle.request_target.specs.Queries.{query_pairs_of, value_of}
-use Rattle.request_target.specs.Routes.{segments}
-use Rattle.mgmt_objects.specs.ModuleBodies.{module_body}
-use Rattle.mgmt_objects.specs.RolloutBodies.{rollout_body}
-use Rattle.mgmt_objects.specs.SetBodies.{set_body}
-use Rattle.mgmt_objects.specs.TargetBodies.{targets_body}
+use Rattle.request_target.specs.Routes.{route_of, segments}
+use Rattle.mgmt_api.specs.Routes.{manage_table}
+use Rattle.mgmt_objects.specs.Bodies.{body_data, body_item}
+use Rattle.mgmt_objects.specs.ModuleBodies.{label_of}
+use Rattle.mgmt_objects.specs.RolloutBodies.{plan_of}
+use Rattle.mgmt_objects.specs.SetBodies.{set_label_of}
+use Rattle.mgmt_objects.specs.TargetBodies.{are_posted, target_row_of}
+use Rattle.mgmt_objects.specs.Traverse.{array_of}
 use Rattle.desk_files.specs.Imports.{targets_in_file}
-use Rattle.mgmt_api.specs.Table.{manage_route}
 use Rattle.mgmt_api.specs.Calls.{calls_of}
 use Rattle.mgmt_api.specs.CancelQueries.{force_asked}
-use Rattle.mgmt_api.specs.PageQueries.{page_asked}
+use Rattle.mgmt_api.specs.PageQueries.{query_page}
 use Rattle.mgmt_api.specs.TargetQueries.{selection_asked}
 use Rattle.mgmt_api.specs.Turns.{turn_command}
 use Rattle.mgmt_api.specs.UploadQueries.{upload_asked}
@@ -48,13 +50,9 @@ abbrev pub or_rejected : {A : Type 0} → Refusal → (A → Asked) → Option A
 or_rejected refusal asked None = Rejected refusal
 or_rejected refusal asked (Some part) = asked part
 
--- the query holds nothing
-abbrev pub has_no_query : WireMessage → Bool
-has_no_query m = is_some (query_pairs_of [] (query_text m.target))
-
 -- what is asked by a call that takes no query
 abbrev pub without_query : WireMessage → Asked → Asked
-without_query m asked = if has_no_query m then asked else Rejected BadRequest
+without_query m asked = if is_some (query_pairs_of [] (query_text m.target)) then asked else Rejected BadRequest
 
 -- no query, and a body that names what is added
 abbrev pub added_by : {A : Type 0} → Option A → (A → Command) → WireMessage → Asked
@@ -80,10 +78,6 @@ path_word m place = option_and_then (kept_if is_word) (slice_get (segments (path
 abbrev pub of_word : ℕ → (List ℕ → Asked) → WireMessage → Asked
 of_word place asked m = or_rejected NotFound asked (path_word m place)
 
--- a tag of a target, and no query
-abbrev pub of_tag : (List ℕ → List ℕ → Command) → WireMessage → Asked
-of_tag command m = of_word 4 (λ id. of_word 6 (λ tag. without_query m (Asks (Do (command id tag)))) m) m
-
 -- what is asked of an action of a target
 abbrev pub of_action : (List ℕ → ℕ → Asked) → WireMessage → Asked
 of_action asked m = of_word 4 (λ id. of_item 6 (λ action. asked id action) m) m
@@ -92,9 +86,11 @@ of_action asked m = of_word 4 (λ id. of_item 6 (λ action. asked id action) m) 
 abbrev pub of_part : (ℕ → ℕ → Asked) → WireMessage → Asked
 of_part asked m = of_item 4 (λ number. of_item 6 (λ part. asked number part) m) m
 
--- a page of a list
+-- a page of a list, by a query that holds no other key, and none twice
 abbrev pub listed_by : (Page → Query) → WireMessage → Asked
-listed_by query m = or_rejected BadRequest (λ page. Asks (Ask (query page))) (page_asked (query_text m.target))
+listed_by query m =
+    or_rejected BadRequest (λ page. Asks (Ask (query page)))
+    (option_and_then query_page (query_pairs_of (codes "offset" ∷ codes "limit" ∷ []) (query_text m.target)))
 
 -- a file of targets, or the line that it is refused by
 abbrev pub import_asked : Result (List TargetRow) ℕ → Asked
@@ -103,7 +99,7 @@ import_asked (Err line) = Rejected (BadImportLine line)
 
 abbrev pub asked_by : ManageCall → WireMessage → Asked
 asked_by ShowModulesCall m = listed_by ShowModules m
-asked_by AddModuleCall m = added_by (module_body m.body) AddModule m
+asked_by AddModuleCall m = added_by (option_and_then label_of (body_item m.body)) AddModule m
 asked_by ShowModuleCall m = shown_by ShowModule m
 asked_by ShowArtifactsCall m = of_item 4 (λ number. listed_by (ShowArtifacts number) m) m
 asked_by AddArtifactCall m =
@@ -111,21 +107,21 @@ asked_by AddArtifactCall m =
 asked_by ShowArtifactCall m = of_part (λ number artifact. without_query m (Asks (Ask (ShowArtifact number artifact)))) m
 asked_by ShowContentsCall m = of_part (λ number artifact. without_query m (Asks (Ask (ShowContents number artifact)))) m
 asked_by ShowSetsCall m = listed_by ShowSets m
-asked_by AddSetCall m = added_by (set_body m.body) AddSet m
+asked_by AddSetCall m = added_by (option_and_then set_label_of (body_item m.body)) AddSet m
 asked_by ShowSetCall m = shown_by ShowSet m
 asked_by ShowTargetsCall m =
     or_rejected BadRequest (λ selection. Asks (Ask (ShowTargets selection.filter_text selection.page))) (selection_asked (query_text m.target))
-asked_by PutTargetsCall m = added_by (targets_body m.body) PutTargets m
+asked_by PutTargetsCall m = added_by (option_and_then (kept_if are_posted) (option_and_then (array_of target_row_of) (body_data m.body))) PutTargets m
 asked_by ShowTargetCall m = of_word 4 (λ id. without_query m (Asks (Ask (ShowTarget id)))) m
-asked_by TagCall m = of_tag Tag m
-asked_by UntagCall m = of_tag Untag m
+asked_by TagCall m = of_word 4 (λ id. of_word 6 (λ tag. without_query m (Asks (Do (Tag id tag)))) m) m
+asked_by UntagCall m = of_word 4 (λ id. of_word 6 (λ tag. without_query m (Asks (Do (Untag id tag)))) m) m
 asked_by ShowTargetActionsCall m = of_word 4 (λ id. listed_by (ShowTargetActions id) m) m
 asked_by ShowActionCall m = of_action (λ id action. without_query m (Asks (Ask (ShowAction id action)))) m
 asked_by CancelAction m =
     of_action (λ id action. or_rejected BadRequest (λ force. Asks (Do (Cancel id action force))) (force_asked (query_text m.target))) m
 asked_by ShowHistoryCall m = of_action (λ id action. listed_by (ShowHistory id action) m) m
 asked_by ShowRolloutsCall m = listed_by ShowRollouts m
-asked_by CreateRolloutCall m = added_by (rollout_body m.body) CreateRollout m
+asked_by CreateRolloutCall m = added_by (option_and_then plan_of (body_data m.body)) CreateRollout m
 asked_by ShowRolloutCall m = shown_by ShowRollout m
 asked_by (TurnRollout turn) m = of_item 4 (λ number. without_query m (Asks (Do (turn_command turn number)))) m
 asked_by ShowGroupsCall m = of_item 4 (λ number. listed_by (ShowGroups number) m) m
@@ -139,7 +135,7 @@ asked_by ImportCall m = without_query m (import_asked (targets_in_file m.body))
 abbrev pub manage_reading : WireMessage → Asked
 manage_reading m =
     or_rejected NotFound (λ route. or_rejected BadMethod (λ call. asked_by call m) (value_of m.method (calls_of route)))
-    (manage_route (path_of m.target))
+    (route_of manage_table (path_of m.target))
 
 -- what a reader refuses by, beside want of memory
 abbrev pub IsReadersOwn : Refusal → Type 0
@@ -152,4 +148,5 @@ ReadsRequest asked result = MatchResult result (λ request. asked ≡ Asks (requ
 
 -- no query, or a bad request where there is one; in place of either, want of memory
 abbrev pub TakesNoQuery : WireMessage → Result (Unit {0}) Refusal → Type 0
-TakesNoQuery m result = MatchResult result (λ _. has_no_query m ≡ true) (λ refusal. (refusal ≡ NoMemory) ⊎ ((refusal ≡ BadRequest) × (has_no_query m ≡ false)))
+TakesNoQuery m result = MatchResult result (λ _. is_some (query_pairs_of [] (query_text m.target)) ≡ true)
+    (λ refusal. (refusal ≡ NoMemory) ⊎ ((refusal ≡ BadRequest) × (is_some (query_pairs_of [] (query_text m.target)) ≡ false)))

@@ -4,7 +4,7 @@ use Rattle.serde_json.specs.Data.{Data}
 use Rattle.serde_json.specs.Written.{compact_text}
 use Rattle.http_wire.specs.Messages.{WireMessage}
 use Rattle.http_wire.specs.Targets.{path_of}
-use Rattle.http_wire.specs.Replies.{reply_text as wire_text, refusal_body}
+use Rattle.http_wire.specs.Replies.{reply_text, refusal_body}
 use Rattle.http_wire.specs.declared.reply.ContentType.{ContentType}
 use Rattle.http_wire.specs.declared.reply.ContentType.TheVariants.{Json, Octets, Text, Csv}
 use Rattle.http_wire.specs.declared.reply.Answer.{Answer}
@@ -44,10 +44,6 @@ page_reply shows page = json_reply 200 (compact_text (page_data (map shows page.
 abbrev pub file_reply : ContentType → List ℕ → ReplyParts
 file_reply content_type body = record { status = 200; content_type = content_type; ends = false; body = body }
 
--- how many rows of targets were put
-abbrev pub put_reply : ℕ → ℕ → ReplyParts
-put_reply status accepted = json_reply status (compact_text (accepted_data accepted))
-
 abbrev pub shown_target_data : ShownTarget → Data
 shown_target_data t = target_object t.id t.name t.tags t.attributes t.word
 
@@ -70,7 +66,7 @@ parts_of (ContentsShown contents) = file_reply Octets contents
 parts_of (SetAdded s) = json_reply 201 (compact_text (single (set_data s)))
 parts_of (SetShown s) = json_reply 200 (compact_text (set_data s))
 parts_of (SetsShown page) = page_reply set_data page
-parts_of (TargetsPut accepted) = put_reply 201 accepted
+parts_of (TargetsPut accepted) = json_reply 201 (compact_text (accepted_data accepted))
 parts_of (TargetShown t) = json_reply 200 (compact_text (shown_target_data t))
 parts_of (TargetsShown page) = page_reply shown_target_data page
 parts_of Done = json_reply 200 (codes "{}")
@@ -88,12 +84,12 @@ parts_of _ = json_reply 200 []
 
 -- the reply to a message: targets that came as a file are put by the status 200, all else is the reply's own
 abbrev pub parts_to : WireMessage → Reply → ReplyParts
-parts_to m (TargetsPut accepted) = put_reply (if bytes_eq (path_of m.target) import_path then 200 else 201) accepted
+parts_to m (TargetsPut accepted) = json_reply (if bytes_eq (path_of m.target) import_path then 200 else 201) (compact_text (accepted_data accepted))
 parts_to m reply = parts_of reply
 
--- its whole text on the wire
-abbrev pub reply_text : WireMessage → Reply → List ℕ
-reply_text m reply = wire_text (parts_to m reply).status (parts_to m reply).content_type (parts_to m reply).ends (parts_to m reply).body
+-- the whole text of such a reply on the wire
+abbrev pub text_of : ReplyParts → List ℕ
+text_of parts = reply_text parts.status parts.content_type parts.ends parts.body
 
 -- an answer has these parts
 pub record Has (parts : ReplyParts) (answer : Answer) : Type 0 where

@@ -7,7 +7,7 @@ ghost use Rattle.http_wire.specs.Replies.{refusal_text};
 ghost use Rattle.rollout_model.specs.declared.refusal.Refusal.{Refusal};
 ghost use Rattle.rollout_machine.specs.Replies.{ModuleAdded, Refused};
 ghost use Rattle.mgmt_api.specs.Routes.{manage_table};
-ghost use Rattle.mgmt_api.specs.Replies.{parts_of, reply_text};
+ghost use Rattle.mgmt_api.specs.Replies.{parts_of, parts_to, text_of};
 
 /// The routes are words and parameters that take a whole segment, and no path meets two of them.
 pub fn manage_routes_are_apart()
@@ -16,7 +16,7 @@ pub fn manage_routes_are_apart()
 
 /// A refused request is answered by the refusal's own text, whatever it asked.
 pub fn refused_text()
-    ensures { (m : WireMessage) (refusal : Refusal) → reply_text m (Refused refusal) ≡ refusal_text refusal }
+    ensures { (m : WireMessage) (refusal : Refusal) → text_of (parts_to m (Refused refusal)) ≡ refusal_text refusal }
 {}
 
 /// A worked reply, letter by letter.

@@ -1,10 +1,10 @@
 //! The page that a query asks for.
 
-ghost use Rattle.std.specs.Prelude.{◌≡◌, codes, map};
+ghost use Rattle.std.specs.Prelude.{◌≡◌, [], ◌∷◌, codes, map, option_and_then};
 ghost use Rattle.request_target.specs.Pairs.{seen};
 ghost use Rattle.mgmt_objects.specs.Readings.{ReadsAs};
-ghost use Rattle.mgmt_api.specs.PageQueries.{page_asked, query_page};
-ghost use Rattle.request_target.specs.Queries.{number_or, value_of};
+ghost use Rattle.mgmt_api.specs.PageQueries.{query_page};
+ghost use Rattle.request_target.specs.Queries.{number_or, query_pairs_of, value_of};
 ghost use Rattle.rollout_model.specs.Limits.{limits};
 
 use request_target::{number_or, read_query, value_of};
@@ -34,7 +34,7 @@ pub(crate) fn page_of(pairs: &[(String, String)]) -> Option<Page>
 
 /// The page that a query asks for: `offset` from 0 to 2,147,483,647, 0 where it isn't given, and `limit` from 1 to 500, or 50.
 pub(crate) fn read_page(alloc: Global, query: &[u8]) -> Result<Page, Refusal>
-    ensures { ReadsAs (page_asked query.now) result }
+    ensures { ReadsAs (option_and_then query_page (query_pairs_of (codes "offset" ∷ codes "limit" ∷ []) query.now)) result }
 {
     let keys = ["offset", "limit"];
     let Some(pairs) = read_query(alloc, &keys, query)? else {

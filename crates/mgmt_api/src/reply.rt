@@ -8,10 +8,11 @@ ghost use Rattle.rollout_machine.specs.Views.{listed, listed_targets, reply_of, 
 ghost use Rattle.http_wire.specs.Inbox.{message_of};
 ghost use Rattle.http_wire.specs.Replies.{answer_text};
 ghost use Rattle.mgmt_objects.specs.Pages.{single};
-ghost use Rattle.mgmt_api.specs.Replies.{GivesAnswer, Has, file_reply, parts_of, parts_to, reply_text, json_reply};
+ghost use Rattle.mgmt_api.specs.Replies.{GivesAnswer, Has, file_reply, parts_of, parts_to, text_of, json_reply};
 ghost use Rattle.http_wire.specs.Targets.{path_of};
 ghost use Rattle.mgmt_api.specs.Routes.{import_path};
-ghost use Rattle.mgmt_api.specs.Replies.{page_reply, put_reply, shown_target_data};
+ghost use Rattle.mgmt_api.specs.Replies.{page_reply, shown_target_data};
+ghost use Rattle.mgmt_objects.specs.TargetObjects.{accepted_data};
 
 use desk_files::{actions_csv, rollout_report};
 use http::StatusCode;
@@ -111,7 +112,7 @@ fn empty_answer(alloc: Global) -> Answer
 }
 
 fn put_answer(alloc: Global, status: StatusCode, accepted: u32) -> Result<Answer, Refusal>
-    ensures { GivesAnswer (put_reply status accepted) result }
+    ensures { GivesAnswer (json_reply status (compact_text (accepted_data accepted))) result }
 {
     let body = accepted_text(alloc, accepted)?;
     Ok(json_answer(status, body))
@@ -194,7 +195,7 @@ pub fn manage_reply_to(
 ) -> Result<Answer, Refusal>
     ensures parts { IfOk result (Has (parts_to (message_of message.now) (reply_of reply.now))) }
     ensures text { IfOk result (λ answer. (parts_to (message_of message.now) (reply_of reply.now)).ends ≡ false
-        → answer_text answer ≡ reply_text (message_of message.now) (reply_of reply.now)) }
+        → answer_text answer ≡ text_of (parts_to (message_of message.now) (reply_of reply.now))) }
     ensures memory { IfErr result (λ e. e ≡ NoMemory) }
 {
     answer_to(alloc, message, reply)

@@ -2,7 +2,7 @@
 
 ghost use Rattle.std.specs.Prelude.{◌≡◌, IfOk, IfErr};
 ghost use Rattle.rollout_model.specs.declared.refusal.Refusal.TheVariants.{NoMemory};
-ghost use Rattle.mgmt_api.specs.Routes.{manage_rows};
+ghost use Rattle.mgmt_api.specs.Routes.{manage_rows, manage_table};
 
 use crate::turn::RolloutTurn;
 use matchit::Router;
@@ -157,7 +157,7 @@ fn manage_router(alloc: Global) -> Result<Router<ManageRoute>, AllocError>
 }
 
 impl ManageRoutes {
-    ghost use Rattle.mgmt_api.specs.Table.{manage_route};
+    ghost use Rattle.request_target.specs.Routes.{route_of};
 
     /// All routes. Refused for want of memory alone.
     pub fn make(alloc: Global) -> Result<ManageRoutes, Refusal>
@@ -169,7 +169,7 @@ impl ManageRoutes {
 
     /// Where the path leads, compared segment by segment and as it is written.
     pub fn find(&self, path: &[u8]) -> Option<ManageRoute>
-        ensures { result ≡ manage_route path.now }
+        ensures { result ≡ route_of manage_table path.now }
     {
         match str::from_utf8(path) {
             Ok(path) => route_of(&self.router, path),

@@ -4,7 +4,7 @@ ghost use Rattle.std.specs.Prelude.{◌≡◌, codes, map, option_and_then};
 ghost use Rattle.request_target.specs.Pairs.{seen};
 ghost use Rattle.mgmt_objects.specs.Readings.{ReadsAs};
 ghost use Rattle.rollout_model.specs.Rules.{kept_if, is_contents, is_filename};
-ghost use Rattle.mgmt_api.specs.UploadQueries.{upload_asked, upload_of};
+ghost use Rattle.mgmt_api.specs.UploadQueries.{upload_asked};
 ghost use Rattle.artifact_pieces.specs.Digests.{digest_named};
 ghost use Rattle.mgmt_objects.specs.Bodies.{if_given};
 ghost use Rattle.request_target.specs.Queries.{value_of};
@@ -44,29 +44,6 @@ fn read_contents(alloc: Global, body: &[u8]) -> Result<Contents, Refusal>
     }
 }
 
-fn upload_of(
-    alloc: Global,
-    module_number: ModuleNo,
-    body: &[u8],
-    pairs: &[(String, String)],
-) -> Result<Upload, Refusal>
-    ensures { ReadsAs (upload_of module_number body.now (map seen pairs.now)) result }
-{
-    let Some(filename) = filename_given(pairs) else {
-        return Err(Refusal::BadRequest);
-    };
-    let Some(expected) = digest_expected(pairs) else {
-        return Err(Refusal::BadRequest);
-    };
-    let contents = read_contents(alloc, body)?;
-    Ok(Upload {
-        module_number,
-        filename,
-        expected,
-        contents,
-    })
-}
-
 /// What is uploaded to a module: the body's bytes as they are, by the query's `filename` and, where it is given, `sha256`.
 pub(crate) fn read_upload(
     alloc: Global,
@@ -80,5 +57,17 @@ pub(crate) fn read_upload(
     let Some(pairs) = read_query(alloc, &keys, query)? else {
         return Err(Refusal::BadRequest);
     };
-    upload_of(alloc, module_number, body, &pairs)
+    let Some(filename) = filename_given(&pairs) else {
+        return Err(Refusal::BadRequest);
+    };
+    let Some(expected) = digest_expected(&pairs) else {
+        return Err(Refusal::BadRequest);
+    };
+    let contents = read_contents(alloc, body)?;
+    Ok(Upload {
+        module_number,
+        filename,
+        expected,
+        contents,
+    })
 }

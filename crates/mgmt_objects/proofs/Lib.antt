@@ -3,5 +3,4 @@ pub mod BodyLemmas
 pub mod TraverseLemmas
 pub mod LettersLemmas
 pub mod PageLemmas
-pub mod SetLemmas
 pub mod TargetLemmas

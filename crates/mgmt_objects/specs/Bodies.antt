@@ -1,5 +1,5 @@
 -- The parts of a body.
-use Rattle.std.specs.Prelude.{ℕ, List, Option, Some, None, option_and_then, option_map, if◌then◌else◌}
+use Rattle.std.specs.Prelude.{ℕ, Bool, List, Option, Some, None, option_and_then, option_map, if◌then◌else◌}
 use Rattle.std.specs.Str.{is_utf8}
 use Rattle.serde_json.specs.Data.{Data, Items, no_items, item}
 use Rattle.serde_json.specs.Read.{read}
@@ -10,14 +10,19 @@ use Rattle.rollout_model.specs.Rules.{kept_if, is_text, is_number}
 abbrev pub body_data : List ℕ → Option Data
 body_data bytes = if is_utf8 bytes then read bytes else None
 
+-- the one item of just one
 abbrev pub only_item : Items → Option Data
 only_item no_items = None
 only_item (item d no_items) = Some d
 only_item (item d (item e ds)) = None
 
--- the one item of an array that has just one
-abbrev pub only : Data → Option Data
-only d = option_and_then only_item (as_array d)
+-- the one item of the array that a body writes
+abbrev pub body_item : List ℕ → Option Data
+body_item bytes = option_and_then only_item (option_and_then as_array (body_data bytes))
+
+-- a value that is such a text
+abbrev pub text_in : (List ℕ → Bool) → Data → Option (List ℕ)
+text_in test d = option_and_then (kept_if test) (as_str d)
 
 -- a member that is a text; of members with one name the last
 abbrev pub string_member : List ℕ → Data → Option (List ℕ)

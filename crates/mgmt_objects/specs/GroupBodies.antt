@@ -22,14 +22,11 @@ group_item_of d =
 abbrev pub item_definition : ℕ → ℕ → GroupItem → GroupDefinition
 item_definition success error it = record { percentage = it.percentage; success = unwrap_or it.success success; error = unwrap_or it.error error }
 
--- exactly one of the two is there: so many groups, 1 to 50, as even as can be; or so many, each defined by an item, the last of 100 percent
+-- by the thresholds of the rollout, `amountGroups` and `groups`. Exactly one of the two is there: so many groups, 1 to 50, as even as
+-- can be; or so many, each defined by an item, the last of 100 percent
 abbrev pub grouping_by : ℕ → ℕ → Option Data → Option Data → Option Grouping
 grouping_by success error (Some amount) None = option_map evenly (option_and_then (kept_if is_group_count) (whole_of amount))
 grouping_by success error None (Some groups) =
     option_map defined (option_and_then (kept_if are_definitions) (option_map (map (item_definition success error)) (array_of group_item_of groups)))
 grouping_by success error (Some amount) (Some groups) = None
 grouping_by success error None None = None
-
--- an object's `amountGroups` or its `groups`, beside the thresholds of the rollout
-abbrev pub grouping_member : ℕ → ℕ → Data → Option Grouping
-grouping_member success error d = grouping_by success error (get (codes "amountGroups") d) (get (codes "groups") d)

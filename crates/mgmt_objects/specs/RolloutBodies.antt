@@ -1,16 +1,12 @@
--- The body that creates a rollout.
-use Rattle.std.specs.Prelude.{ℕ, List, Bool, true, ◌&&◌, codes, Option, Some, None, option_and_then, option_map, if◌then◌else◌}
+-- The body that creates a rollout: one object.
+use Rattle.std.specs.Prelude.{true, ◌&&◌, codes, Option, None, option_and_then, option_map, if◌then◌else◌}
+use Rattle.std.specs.Option.{option_map_or}
 use Rattle.serde_json.specs.Data.{Data}
 use Rattle.serde_json.specs.Find.{get}
 use Rattle.rollout_model.specs.declared.rollout_plan.RolloutPlan.{RolloutPlan}
-use Rattle.mgmt_objects.specs.Bodies.{body_data, number_member, string_member, text_member}
-use Rattle.mgmt_objects.specs.GroupBodies.{grouping_member}
+use Rattle.mgmt_objects.specs.Bodies.{number_member, string_member, text_member}
+use Rattle.mgmt_objects.specs.GroupBodies.{grouping_by}
 use Rattle.mgmt_objects.specs.Thresholds.{says, threshold_of}
-
--- where an action is named, it is the one that is always taken
-abbrev pub allows : List ℕ → Option Data → Bool
-allows word None = true
-allows word (Some d) = says (codes "action") word d
 
 -- an object's `name`, `distributionSetId`, `targetFilterQuery`, `successCondition` and `errorCondition`, and its groups
 abbrev pub plan_members : Data → Option RolloutPlan
@@ -23,17 +19,15 @@ plan_members d =
       groups = groups;
       success = success;
       error = error;
-    }) (grouping_member success error d))
+    }) (grouping_by success error (get (codes "amountGroups") d) (get (codes "groups") d)))
     (option_and_then threshold_of (get (codes "errorCondition") d))) (option_and_then threshold_of (get (codes "successCondition") d)))
     (string_member (codes "targetFilterQuery") d)) (number_member (codes "distributionSetId") d)) (text_member (codes "name") d)
 
--- the same, where a group whose success is reached starts the next one, and one whose error is reached pauses the rollout
+-- the same, where a group whose success is reached starts the next one, and one whose error is reached pauses the rollout: no
+-- other action is named
 abbrev pub plan_of : Data → Option RolloutPlan
 plan_of d =
-    if allows (codes "NEXTGROUP") (get (codes "successAction") d) && allows (codes "PAUSE") (get (codes "errorAction") d)
+    if option_map_or (says (codes "action") (codes "NEXTGROUP")) (get (codes "successAction") d) true
+    && option_map_or (says (codes "action") (codes "PAUSE")) (get (codes "errorAction") d) true
     then plan_members d
     else None
-
--- one such object
-abbrev pub rollout_body : List ℕ → Option RolloutPlan
-rollout_body bytes = option_and_then plan_of (body_data bytes)

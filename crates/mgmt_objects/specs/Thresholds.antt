@@ -12,14 +12,10 @@ abbrev pub percent_after : ℕ → List ℕ → Option ℕ
 percent_after n [] = Some n
 percent_after n (c ∷ cs) = if is_ascii_digit c && nat_le (10 * n + (c - 48)) 100 then percent_after (10 * n + (c - 48)) cs else None
 
--- digits without a leading zero
-abbrev pub percent_written : List ℕ → Option ℕ
-percent_written [] = None
-percent_written (c ∷ cs) = if c == 48 then None else percent_after 0 (c ∷ cs)
-
--- a percentage from 1 to 100
+-- a percentage from 1 to 100, by digits without a leading zero
 abbrev pub percentage_of_text : List ℕ → Option ℕ
-percentage_of_text text = option_and_then (kept_if is_percentage) (percent_written text)
+percentage_of_text [] = None
+percentage_of_text (c ∷ cs) = if c == 48 then None else option_and_then (kept_if is_percentage) (percent_after 0 (c ∷ cs))
 
 -- a member is this word
 abbrev pub says : List ℕ → List ℕ → Data → Bool

@@ -1,5 +1,5 @@
 -- A reading of each item of a list.
-use Rattle.std.specs.Prelude.{List, [], ◌∷◌, Option, Some, None, option_map, option_and_then}
+use Rattle.std.specs.Prelude.{List, [], ◌∷◌, Option, Some, option_map, option_and_then}
 use Rattle.serde_json.specs.Data.{Data, Items, no_items, item}
 use Rattle.serde_json.specs.Find.{as_array}
 
@@ -16,8 +16,3 @@ list_of (item d ds) = d ∷ list_of ds
 -- what is read of each item of an array
 abbrev pub array_of : {B : Type 0} → (Data → Option B) → Data → Option (List B)
 array_of f d = option_and_then (λ items. traverse f (list_of items)) (as_array d)
-
--- the same of a member that may be missing, and then has no items
-abbrev pub array_if_given : {B : Type 0} → (Data → Option B) → Option Data → Option (List B)
-array_if_given f None = Some []
-array_if_given f (Some d) = array_of f d

@@ -1,8 +1,9 @@
 //! The value of a body.
 
-ghost use Rattle.std.specs.Prelude.{◌≡◌, Some, MatchResult, option_map};
+ghost use Rattle.std.specs.Prelude.{◌≡◌, Some, MatchResult, option_and_then, option_map};
+ghost use Rattle.serde_json.specs.Find.{as_array};
 ghost use Rattle.serde_json.specs.View.{view};
-ghost use Rattle.mgmt_objects.specs.Bodies.{body_data, only};
+ghost use Rattle.mgmt_objects.specs.Bodies.{body_data, only_item};
 ghost use Rattle.mgmt_objects.specs.Readings.{IsReadingFault, ReadsBy};
 
 use rollout_model::Refusal;
@@ -27,7 +28,7 @@ pub fn read_value(alloc: Global, bytes: &[u8]) -> Result<Value, Refusal>
 
 /// The one item of an array that has just one.
 pub fn only_item(value: &Value) -> Option<&Value>
-    ensures { option_map (λ v. view v.now) result ≡ only (view value.now) }
+    ensures { option_map (λ v. view v.now) result ≡ option_and_then only_item (as_array (view value.now)) }
 {
     let items = value.as_array()?;
     if items.len() != 1 {

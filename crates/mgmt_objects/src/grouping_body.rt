@@ -1,11 +1,12 @@
 //! How a rollout's body cuts it into groups.
 
-ghost use Rattle.std.specs.Prelude.{◌≡◌, None, Some, IfOk, map, option_and_then, option_map};
+ghost use Rattle.std.specs.Prelude.{◌≡◌, None, Some, IfOk, codes, map, option_and_then, option_map};
+ghost use Rattle.serde_json.specs.Find.{get};
 ghost use Rattle.serde_json.specs.View.{view};
 ghost use Rattle.rollout_model.specs.Groupings.{evenly};
 ghost use Rattle.rollout_model.specs.Rules.{is_group_count, kept_if};
 ghost use Rattle.mgmt_objects.specs.Bodies.{whole_of};
-ghost use Rattle.mgmt_objects.specs.GroupBodies.{group_item_of, grouping_by, grouping_member, item_definition};
+ghost use Rattle.mgmt_objects.specs.GroupBodies.{group_item_of, grouping_by, item_definition};
 ghost use Rattle.mgmt_objects.specs.Readings.{ReadsAs, ReadsBy, ReadsExactly};
 ghost use Rattle.mgmt_objects.specs.Traverse.{array_of};
 
@@ -84,7 +85,7 @@ pub fn read_grouping(
     success: Percentage,
     error: Percentage,
 ) -> Result<Grouping, Refusal>
-    ensures { ReadsAs (grouping_member success error (view object.now)) result }
+    ensures { ReadsAs (grouping_by success error (get (codes "amountGroups") (view object.now)) (get (codes "groups") (view object.now))) result }
 {
     match (object.get("amountGroups"), object.get("groups")) {
         (Some(amount), None) => read_even(amount),

@@ -1,6 +1,6 @@
 //! Worked bodies and texts.
 
-ghost use Rattle.std.specs.Prelude.{◌≡◌, Some, None, codes, ◌++◌, false, [], ◌∷◌, replicate};
+ghost use Rattle.std.specs.Prelude.{◌≡◌, Some, None, codes, ◌++◌, false, [], ◌∷◌, option_and_then, replicate};
 ghost use Rattle.serde_json.specs.Written.{compact_text};
 ghost use Rattle.rollout_model.specs.Groupings.{defined, evenly};
 ghost use Rattle.rollout_model.specs.declared.action_word.ActionWord.TheVariants as action;
@@ -15,18 +15,21 @@ ghost use Rattle.rollout_model.specs.declared.rollout.Group.{Group};
 ghost use Rattle.rollout_model.specs.declared.rollout.Rollout.{Rollout};
 ghost use Rattle.rollout_model.specs.declared.rollout_word.RolloutWord.TheVariants as rollout;
 ghost use Rattle.mgmt_objects.specs.ArtifactObjects.{artifact_data};
-ghost use Rattle.mgmt_objects.specs.ModuleBodies.{module_body};
+ghost use Rattle.mgmt_objects.specs.Bodies.{body_data, body_item};
+ghost use Rattle.mgmt_objects.specs.ModuleBodies.{label_of};
 ghost use Rattle.mgmt_objects.specs.ModuleObjects.{module_data, module_letters};
 ghost use Rattle.mgmt_objects.specs.Pages.{single};
 ghost use Rattle.mgmt_objects.specs.ActionObjects.{action_data, action_letters, entry_data};
-ghost use Rattle.mgmt_objects.specs.RolloutBodies.{rollout_body};
+ghost use Rattle.mgmt_objects.specs.RolloutBodies.{plan_of};
 ghost use Rattle.mgmt_objects.specs.RolloutObjects.{group_data, group_letters, rollout_data, rollout_letters};
-ghost use Rattle.mgmt_objects.specs.SetBodies.{set_body};
+ghost use Rattle.mgmt_objects.specs.SetBodies.{set_label_of};
 ghost use Rattle.mgmt_objects.specs.SetObjects.{set_data};
 ghost use Rattle.artifact_pieces.specs.Digests.{digest_of};
 ghost use Rattle.rollout_model.specs.declared.target_word.TargetWord.TheVariants.{InSync};
 ghost use Rattle.mgmt_objects.specs.Thresholds.{percentage_of_text};
-ghost use Rattle.mgmt_objects.specs.TargetBodies.{targets_body};
+ghost use Rattle.mgmt_objects.specs.Traverse.{array_of};
+ghost use Rattle.rollout_model.specs.Rules.{kept_if};
+ghost use Rattle.mgmt_objects.specs.TargetBodies.{are_posted, target_row_of};
 ghost use Rattle.mgmt_objects.specs.TargetObjects.{accepted_data, target_data};
 
 /// What worked bodies say:
@@ -37,21 +40,23 @@ ghost use Rattle.mgmt_objects.specs.TargetObjects.{accepted_data, target_data};
 /// - `groups`: a worked body of named groups: the second has thresholds of its own, the others have the rollout's
 /// - `null_action`: a body whose action for an error is `null` plans nothing
 pub fn bodies()
-    ensures module { module_body (codes "[{\"name\":\"app\",\"type\":\"os\",\"version\":\"1.0\"}]")
+    ensures module { option_and_then label_of (body_item (codes "[{\"name\":\"app\",\"type\":\"os\",\"version\":\"1.0\"}]"))
         ≡ Some (record { name = codes "app"; kind = codes "os"; version = codes "1.0" }) }
-    ensures set { set_body (codes "[{\"name\":\"r1\",\"version\":\"1\",\"modules\":[{\"id\":2},{\"id\":1}]}]")
+    ensures set { option_and_then set_label_of (body_item (codes "[{\"name\":\"r1\",\"version\":\"1\",\"modules\":[{\"id\":2},{\"id\":1}]}]"))
         ≡ Some (record { name = codes "r1"; version = codes "1"; modules = 2 ∷ 1 ∷ [] }) }
-    ensures targets { targets_body (codes "[{\"controllerId\":\"dev-01\",\"name\":\"press\",\"securityToken\":\"tok-dev-01\",\"tags\":[\"lab\"]}]")
+    ensures targets { option_and_then (kept_if are_posted) (option_and_then (array_of target_row_of)
+        (body_data (codes "[{\"controllerId\":\"dev-01\",\"name\":\"press\",\"securityToken\":\"tok-dev-01\",\"tags\":[\"lab\"]}]")))
         ≡ Some (record { id = codes "dev-01"; name = codes "press"; digest = digest_of (codes "tok-dev-01"); tags = codes "lab" ∷ [] } ∷ []) }
-    ensures rollout { rollout_body (codes "{\"amountGroups\":3,\"distributionSetId\":1,\"errorCondition\":{\"condition\":\"THRESHOLD\","
+    ensures rollout { option_and_then plan_of (body_data (codes "{\"amountGroups\":3,\"distributionSetId\":1,\"errorCondition\":{\"condition\":\"THRESHOLD\","
         ++ codes "\"expression\":\"100\"},\"name\":\"spring\",\"successAction\":{\"action\":\"NEXTGROUP\"},"
-        ++ codes "\"successCondition\":{\"condition\":\"THRESHOLD\",\"expression\":\"50\"},\"targetFilterQuery\":\"name==*\"}")
+        ++ codes "\"successCondition\":{\"condition\":\"THRESHOLD\",\"expression\":\"50\"},\"targetFilterQuery\":\"name==*\"}"))
         ≡ Some (record { name = codes "spring"; set_number = 1; filter_text = codes "name==*"; groups = evenly 3; success = 50; error = 100 }) }
-    ensures groups { rollout_body (codes "{\"distributionSetId\":1,\"errorCondition\":{\"condition\":\"THRESHOLD\",\"expression\":\"100\"},"
+    ensures groups { option_and_then plan_of
+        (body_data (codes "{\"distributionSetId\":1,\"errorCondition\":{\"condition\":\"THRESHOLD\",\"expression\":\"100\"},"
         ++ codes "\"groups\":[{\"targetPercentage\":10},{\"errorCondition\":{\"condition\":\"THRESHOLD\",\"expression\":\"34\"},"
         ++ codes "\"successCondition\":{\"condition\":\"THRESHOLD\",\"expression\":\"40\"},\"targetPercentage\":50},"
         ++ codes "{\"targetPercentage\":100}],\"name\":\"spring\","
-        ++ codes "\"successCondition\":{\"condition\":\"THRESHOLD\",\"expression\":\"100\"},\"targetFilterQuery\":\"name==*\"}")
+        ++ codes "\"successCondition\":{\"condition\":\"THRESHOLD\",\"expression\":\"100\"},\"targetFilterQuery\":\"name==*\"}"))
         ≡ Some (record {
           name = codes "spring";
           set_number = 1;
@@ -61,9 +66,9 @@ pub fn bodies()
           success = 100;
           error = 100;
         }) }
-    ensures null_action { rollout_body (codes "{\"amountGroups\":3,\"distributionSetId\":1,\"errorAction\":null,"
+    ensures null_action { option_and_then plan_of (body_data (codes "{\"amountGroups\":3,\"distributionSetId\":1,\"errorAction\":null,"
         ++ codes "\"errorCondition\":{\"condition\":\"THRESHOLD\",\"expression\":\"100\"},\"name\":\"spring\","
-        ++ codes "\"successCondition\":{\"condition\":\"THRESHOLD\",\"expression\":\"50\"},\"targetFilterQuery\":\"name==*\"}") ≡ None }
+        ++ codes "\"successCondition\":{\"condition\":\"THRESHOLD\",\"expression\":\"50\"},\"targetFilterQuery\":\"name==*\"}")) ≡ None }
 {}
 
 /// A percentage has digits alone, and no leading zero.

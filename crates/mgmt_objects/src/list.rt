@@ -1,10 +1,10 @@
 //! The arrays of a body, whatever their items.
 
-ghost use Rattle.std.specs.Prelude.{map, Option, option_and_then};
+ghost use Rattle.std.specs.Prelude.{map, Option};
 ghost use Rattle.serde_json.specs.Data.{Data};
-ghost use Rattle.serde_json.specs.Find.{as_str};
 ghost use Rattle.serde_json.specs.View.{view};
-ghost use Rattle.rollout_model.specs.Rules.{kept_if, is_text};
+ghost use Rattle.rollout_model.specs.Rules.{is_text};
+ghost use Rattle.mgmt_objects.specs.Bodies.{text_in};
 ghost use Rattle.mgmt_objects.specs.Readings.{ReadsAs, ReadsBy};
 ghost use Rattle.mgmt_objects.specs.Traverse.{array_of, traverse};
 
@@ -22,7 +22,7 @@ pub trait Item: Sized + Drop {
 }
 
 impl Item for Text {
-    ghost reads = { λ d. option_and_then (kept_if is_text) (as_str d) };
+    ghost reads = { text_in is_text };
 
     fn read(alloc: Global, value: &Value) -> Result<Self, Refusal> {
         let Some(text) = value.as_str() else {

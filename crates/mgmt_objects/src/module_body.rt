@@ -1,7 +1,9 @@
 //! The body that adds a module.
 
+ghost use Rattle.std.specs.Prelude.{option_and_then};
 ghost use Rattle.serde_json.specs.View.{view};
-ghost use Rattle.mgmt_objects.specs.ModuleBodies.{label_of, module_body};
+ghost use Rattle.mgmt_objects.specs.Bodies.{body_item};
+ghost use Rattle.mgmt_objects.specs.ModuleBodies.{label_of};
 ghost use Rattle.mgmt_objects.specs.Readings.{ReadsAs};
 
 use crate::body::{only_item, read_value};
@@ -25,7 +27,7 @@ fn read_label(alloc: Global, object: &Value) -> Result<ModuleLabel, Refusal>
 
 /// What the body of `POST /rest/v1/softwaremodules` names: an array of exactly one object with `name`, `type` and `version`.
 pub fn read_module_body(alloc: Global, bytes: &[u8]) -> Result<ModuleLabel, Refusal>
-    ensures { ReadsAs (module_body bytes.now) result }
+    ensures { ReadsAs (option_and_then label_of (body_item bytes.now)) result }
 {
     let value = read_value(alloc, bytes)?;
     let Some(object) = only_item(&value) else {

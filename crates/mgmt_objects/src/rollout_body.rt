@@ -1,12 +1,13 @@
 //! The body that creates a rollout.
 
-ghost use Rattle.std.specs.Prelude.{◌≡◌, ◌&&◌, codes, option_and_then};
+ghost use Rattle.std.specs.Prelude.{◌≡◌, ◌&&◌, true, codes, option_and_then};
+ghost use Rattle.std.specs.Option.{option_map_or};
 ghost use Rattle.serde_json.specs.Find.{get};
 ghost use Rattle.serde_json.specs.View.{view};
-ghost use Rattle.mgmt_objects.specs.Bodies.{number_member, string_member};
+ghost use Rattle.mgmt_objects.specs.Bodies.{body_data, number_member, string_member};
 ghost use Rattle.mgmt_objects.specs.Readings.{ReadsAs};
-ghost use Rattle.mgmt_objects.specs.RolloutBodies.{allows, plan_members, plan_of, rollout_body};
-ghost use Rattle.mgmt_objects.specs.Thresholds.{threshold_of};
+ghost use Rattle.mgmt_objects.specs.RolloutBodies.{plan_members, plan_of};
+ghost use Rattle.mgmt_objects.specs.Thresholds.{says, threshold_of};
 
 use crate::body::read_value;
 use crate::grouping_body::read_grouping;
@@ -25,7 +26,7 @@ fn threshold_member(object: &Value, key: &str) -> Option<Percentage>
 
 /// Whether a member is missing, or names this action.
 fn allows(object: &Value, key: &str, word: &str) -> bool
-    ensures { result ≡ allows word.now (get key.now (view object.now)) }
+    ensures { result ≡ option_map_or (says (codes "action") word.now) (get key.now (view object.now)) true }
 {
     match object.get(key) {
         None => true,
@@ -35,8 +36,8 @@ fn allows(object: &Value, key: &str, word: &str) -> bool
 
 /// Whether the actions that are named, if any, are those that are always taken.
 fn allows_actions(object: &Value) -> bool
-    ensures { result ≡ (allows (codes "NEXTGROUP") (get (codes "successAction") (view object.now))
-        && allows (codes "PAUSE") (get (codes "errorAction") (view object.now))) }
+    ensures { result ≡ (option_map_or (says (codes "action") (codes "NEXTGROUP")) (get (codes "successAction") (view object.now)) true
+        && option_map_or (says (codes "action") (codes "PAUSE")) (get (codes "errorAction") (view object.now)) true) }
 {
     allows(object, "successAction", "NEXTGROUP") && allows(object, "errorAction", "PAUSE")
 }
@@ -98,7 +99,7 @@ fn read_plan(alloc: Global, object: &Value) -> Result<RolloutPlan, Refusal>
 /// `successCondition` and `errorCondition`, either `amountGroups` from 1 to 50 or `groups`, 1 to 50 objects, and perhaps
 /// `successAction` and `errorAction`.
 pub fn read_rollout_body(alloc: Global, bytes: &[u8]) -> Result<RolloutPlan, Refusal>
-    ensures { ReadsAs (rollout_body bytes.now) result }
+    ensures { ReadsAs (option_and_then plan_of (body_data bytes.now)) result }
 {
     let value = read_value(alloc, bytes)?;
     read_plan(alloc, &value)

@@ -1,18 +1,18 @@
 //! The body that puts targets.
 
-ghost use Rattle.std.specs.Prelude.{◌≡◌, nat_eq, option_and_then, option_map};
+ghost use Rattle.std.specs.Prelude.{◌≡◌, [], Some, codes, map, nat_eq, option_and_then, option_map};
 ghost use Rattle.serde_json.specs.Find.{get};
 ghost use Rattle.serde_json.specs.View.{view};
 ghost use Rattle.mgmt_objects.specs.Readings.{ReadsAs, ReadsBy};
-ghost use Rattle.mgmt_objects.specs.TargetBodies.{are_posted, have_distinct_ids, tags_member, target_row_of, targets_body};
-ghost use Rattle.mgmt_objects.specs.TargetBodies.{word_in};
+ghost use Rattle.mgmt_objects.specs.TargetBodies.{are_posted, target_row_of};
 ghost use Rattle.artifact_pieces.specs.Digests.{digest_of};
-ghost use Rattle.mgmt_objects.specs.Bodies.{string_member};
-ghost use Rattle.mgmt_objects.specs.Traverse.{array_if_given};
-ghost use Rattle.rollout_model.specs.Rules.{is_token, kept_if};
+ghost use Rattle.mgmt_objects.specs.Bodies.{body_data, string_member, text_in};
+ghost use Rattle.mgmt_objects.specs.Traverse.{array_of};
+ghost use Rattle.rollout_model.specs.Rules.{are_distinct_words, is_tag_list, is_token, is_word, kept_if};
 ghost use Rattle.rollout_model.specs.declared.target_row.TargetRow as target_row;
 ghost use Rattle.std.specs.Cmp.Lexicographic.{pointwise};
 ghost use Rattle.std.specs.List.{list_any};
+ghost use Rattle.std.specs.Option.{option_map_or};
 
 use crate::body::read_value;
 use crate::list::{Item, read_array};
@@ -24,7 +24,7 @@ use serde_json::Value;
 use std::alloc::Global;
 
 fn word_in(value: &Value) -> Option<Word>
-    ensures { result ≡ word_in (view value.now) }
+    ensures { result ≡ text_in is_word (view value.now) }
 {
     let text = value.as_str()?;
     Word::read(text)
@@ -32,7 +32,7 @@ fn word_in(value: &Value) -> Option<Word>
 
 /// A tag in an array of tags.
 impl Item for Word {
-    ghost reads = { word_in };
+    ghost reads = { text_in is_word };
 
     fn read(_alloc: Global, value: &Value) -> Result<Self, Refusal> {
         match word_in(value) {
@@ -43,7 +43,7 @@ impl Item for Word {
 }
 
 fn read_id(object: &Value, key: &str) -> Option<ControllerId>
-    ensures { result ≡ option_and_then word_in (get key.now (view object.now)) }
+    ensures { result ≡ option_and_then (text_in is_word) (get key.now (view object.now)) }
 {
     let text = object.get(key).and_then(Value::as_str)?;
     ControllerId::read(text)
@@ -61,7 +61,7 @@ fn read_token_digest(object: &Value, key: &str) -> Option<Digest>
 
 /// The words of a member that is an array, and none where it is missing.
 fn read_words(alloc: Global, object: &Value, key: &str) -> Result<Vec<Word>, Refusal>
-    ensures { ReadsBy (λ v. v.items) (array_if_given word_in (get key.now (view object.now))) result }
+    ensures { ReadsBy (λ v. v.items) (option_map_or (array_of (text_in is_word)) (get key.now (view object.now)) (Some [])) result }
 {
     match object.get(key) {
         Some(list) => read_array::<Word>(alloc, list),
@@ -70,7 +70,8 @@ fn read_words(alloc: Global, object: &Value, key: &str) -> Result<Vec<Word>, Ref
 }
 
 fn read_tags(alloc: Global, object: &Value) -> Result<Tags, Refusal>
-    ensures { ReadsAs (tags_member (view object.now)) result }
+    ensures { ReadsAs (option_and_then (kept_if is_tag_list)
+        (option_map_or (array_of (text_in is_word)) (get (codes "tags") (view object.now)) (Some []))) result }
 {
     let words = read_words(alloc, object, "tags")?;
     match Tags::from_words(words) {
@@ -103,14 +104,17 @@ impl Item for TargetRow {
 
 /// Whether some row is one of the target of this id.
 fn has_row_of(rows: &[TargetRow], id: &ControllerId) -> bool
-    ensures { result ≡ list_any (λ (row : target_row.TargetRow). pointwise nat_eq row.id id.now) rows.now }
+    ensures { result ≡ list_any (λ word. pointwise nat_eq word id.now) (map (λ (row : target_row.TargetRow). row.id) rows.now) }
 {
-    rows.iter().any(|row| row.id == *id)
+    match rows {
+        [] => false,
+        [first, rest @ ..] => first.id == *id || has_row_of(rest, id),
+    }
 }
 
 /// Whether no two rows are of one id.
 fn have_distinct_ids(rows: &[TargetRow]) -> bool
-    ensures { result ≡ have_distinct_ids rows.now }
+    ensures { result ≡ are_distinct_words (map (λ (row : target_row.TargetRow). row.id) rows.now) }
 {
     match rows {
         [] => true,
@@ -132,7 +136,7 @@ fn posted(rows: Vec<TargetRow>) -> Option<TargetRows>
 /// What the body of `POST /rest/v1/targets` puts: an array of 1 to 100 objects, no two of one `controllerId`, each with
 /// `controllerId`, `name`, `securityToken` and perhaps `tags`, at most 16 words, none of them twice.
 pub fn read_targets_body(alloc: Global, bytes: &[u8]) -> Result<TargetRows, Refusal>
-    ensures { ReadsAs (targets_body bytes.now) result }
+    ensures { ReadsAs (option_and_then (kept_if are_posted) (option_and_then (array_of target_row_of) (body_data bytes.now))) result }
 {
     let value = read_value(alloc, bytes)?;
     let rows = read_array::<TargetRow>(alloc, &value)?;

@@ -3,7 +3,7 @@
 ghost use Rattle.std.specs.Prelude.{◌≡◌, ◌≤◌, option_map};
 ghost use Rattle.serde_json.specs.View.{view};
 ghost use Rattle.mgmt_objects.specs.Bodies.{string_member};
-ghost use Rattle.mgmt_objects.specs.Thresholds.{percent_after, percent_written, percentage_of_text, says, threshold_of};
+ghost use Rattle.mgmt_objects.specs.Thresholds.{percent_after, percentage_of_text, says, threshold_of};
 
 use rollout_model::Percentage;
 use serde_json::Value;
@@ -28,22 +28,18 @@ fn percent_after(n: u8, digits: &[u8]) -> Option<u8>
     }
 }
 
-/// The number that digits write without a leading zero.
-fn percent_written(digits: &[u8]) -> Option<u8>
-    ensures { result ≡ percent_written digits.now }
+/// The percentage that digits write without a leading zero.
+fn percentage_of(digits: &[u8]) -> Option<Percentage>
+    ensures { result ≡ percentage_of_text digits.now }
 {
     match digits {
         [] => None,
         [b'0', ..] => None,
-        digits => percent_after(0, digits),
+        digits => {
+            let percent = percent_after(0, digits)?;
+            Percentage::new(percent)
+        }
     }
-}
-
-fn percentage_in(text: &str) -> Option<Percentage>
-    ensures { result ≡ percentage_of_text text.now }
-{
-    let percent = percent_written(text.as_bytes())?;
-    Percentage::new(percent)
 }
 
 pub fn string_member<'a>(object: &'a Value, key: &str) -> Option<&'a str>
@@ -70,5 +66,5 @@ pub fn threshold_of(condition: &Value) -> Option<Percentage>
         return None;
     }
     let text = string_member(condition, "expression")?;
-    percentage_in(text)
+    percentage_of(text.as_bytes())
 }

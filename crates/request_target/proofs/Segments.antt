@@ -1,6 +1,7 @@
 -- A path meets a route's tokens where the route's segments stand for its own.
 use Rattle.request_target.proofs.Common.{◌≡◌, ℕ, suc, List, [], ◌∷◌, ◌++◌, length, take, drop, Bool, true, false, not, cond, ◌&&◌, ◌==◌, nat_lt, nat_eq, refl}
-use Rattle.request_target.proofs.Common.{sym, ◌∙◌, ap, arith, append-nil, bytes_eq, list_all, nat_tests, segments, stands_for, fits}
+use Rattle.request_target.proofs.Common.{pointwise}
+use Rattle.request_target.proofs.Common.{sym, ◌∙◌, ap, arith, append-nil, bytes_eq, list_all, nat_tests, segments, stands_for}
 use Rattle.request_target.proofs.Common.{part_tokens, tokens, is_part}
 use Rattle.request_target.proofs.Meets.{segment_len, meets}
 use Rattle.request_target.proofs.Longest.{both}
@@ -68,7 +69,7 @@ length_first : (path : List ℕ) → nat_lt 0 (length (take (segment_len path) p
 length_first path = grind arith
 
 -- nothing is left, or there is one more segment
-at_end : (q : List ℕ) → meets [] q ≡ fits [] (later q)
+at_end : (q : List ℕ) → meets [] q ≡ pointwise stands_for [] (later q)
 at_end q = grind (arith, segments_split)
 
 -- a part and a tail
@@ -78,11 +79,11 @@ meets_part part t path ok tail = grind (arith, length_first, meets_word)
 
 -- the tokens of a route's parts
 pub meets_tokens : (part : List ℕ) (parts : List (List ℕ)) (path : List ℕ) → list_all is_part (part ∷ parts) ≡ true
-    → meets (tokens (part ∷ parts)) path ≡ fits (part ∷ parts) (segments path)
+    → meets (tokens (part ∷ parts)) path ≡ pointwise stands_for (part ∷ parts) (segments path)
 meets_tokens part [] path ok = rw (segments_split path) (alone (both (is_part part) true ok).0)
   where
     alone : is_part part ≡ true → meets (part_tokens part) path
-        ≡ (stands_for part (take (segment_len path) path) && fits [] (later (drop (segment_len path) path)))
+        ≡ (stands_for part (take (segment_len path) path) && pointwise stands_for [] (later (drop (segment_len path) path)))
     alone one = sym (ap (λ t. meets t path) (append-nil (part_tokens part))) ∙ meets_part part [] path one tt
         ∙ ap (λ v. stands_for part (take (segment_len path) path) && v) (at_end (drop (segment_len path) path))
 meets_tokens part (next ∷ rest) path ok =
@@ -91,7 +92,8 @@ meets_tokens part (next ∷ rest) path ok =
     ∙ ap (λ v. stands_for part (take (segment_len path) path) && v)
     (goes_on (drop (segment_len path) path) (rest_is path) (λ (p : List ℕ). meets_tokens next rest p parts_ok.1)))
   where
-    goes_on : (q : List ℕ) → IsRest q → ((p : List ℕ) → meets (tokens (next ∷ rest)) p ≡ fits (next ∷ rest) (segments p)) → meets (47 ∷ tokens (next ∷ rest)) q
-        ≡ fits (next ∷ rest) (later q)
+    goes_on : (q : List ℕ) → IsRest q → ((p : List ℕ) → meets (tokens (next ∷ rest)) p ≡ pointwise stands_for (next ∷ rest) (segments p))
+        → meets (47 ∷ tokens (next ∷ rest)) q
+        ≡ pointwise stands_for (next ∷ rest) (later q)
     goes_on [] slash shorter = refl
     goes_on (b ∷ q) slash shorter = let is : (47 == b) ≡ true = grind (arith, nat_tests) in rw is (shorter q)

@@ -1,7 +1,8 @@
 -- The rows that were made of a table lead where the table does.
 use native.Mathlib.Omega.{arith}
-use Rattle.request_target.proofs.Common.{◌≡◌, ℕ, List, [], ◌∷◌, Bool, true, cond, ◌&&◌, Option, Some, None, option_map, Result, Ok, Err, refl}
-use Rattle.request_target.proofs.Common.{sym, ◌∙◌, ap, bytes_eq, false≢true, list_all, RowsOf, first, segments, fits, route_in}
+use Rattle.request_target.proofs.Common.{◌≡◌, ℕ, List, [], ◌∷◌, Bool, true, cond, ◌&&◌, Option, Some, None, option_map, Result, Ok, Err, refl, pointwise}
+use Rattle.request_target.proofs.Common.{stands_for}
+use Rattle.request_target.proofs.Common.{sym, ◌∙◌, ap, bytes_eq, false≢true, list_all, RowsOf, first, segments, route_in}
 use Rattle.request_target.proofs.Common.{apart_from, tokens, is_part, added, rows_with, is_new, are_new, are_routes}
 use Rattle.std.proofs.lemmas.Slice.Eq.{bytes_eq-Decides}
 use Rattle.matchit.specs.Route.{Scan, parse_route}
@@ -62,19 +63,21 @@ same_bytes : (a b : List ℕ) → bytes_eq a b ≡ true → a ≡ b
 same_bytes a b h = (bytes_eq-Decides a b).0 h
 
 -- a path meets the tokens of a route where the segments fit
-meets_route : (route path : List ℕ) → list_all is_part (segments route) ≡ true → meets (tokens (segments route)) path ≡ fits (segments route) (segments path)
+meets_route : (route path : List ℕ) → list_all is_part (segments route) ≡ true → meets (tokens (segments route)) path
+    ≡ pointwise stands_for (segments route) (segments path)
 meets_route route path ok = grind (arith, segments_some, meets_tokens)
 
 -- a route that is added leads on from its own paths alone
 added_leads : {T : Type 0} (read : Result Scan InsertError) (route : List ℕ) (value : T) (rows : RowsOf (RouteOf T)) (path : List ℕ) → is_new read route rows
     ≡ true
-    → value_of (met_row (added read value rows) path) ≡ or_else (value_of (met_row rows path)) (only_if (fits (segments route) (segments path)) value)
+    → value_of (met_row (added read value rows) path)
+    ≡ or_else (value_of (met_row rows path)) (only_if (pointwise stands_for (segments route) (segments path)) value)
 added_leads (Err e) route value rows path new = absurd (false≢true new)
 added_leads (Ok s) route value rows path new =
     let outer = both (bytes_eq s.pattern (tokens (segments route)) && list_all is_part (segments route)) (apart_from s.pattern rows) new in
     let inner = both (bytes_eq s.pattern (tokens (segments route))) (list_all is_part (segments route)) outer.0 in
     let pattern : s.pattern ≡ tokens (segments route) = same_bytes s.pattern (tokens (segments route)) inner.0 in
-    let met : meets s.pattern path ≡ fits (segments route) (segments path) = ap (λ t. meets t path) pattern ∙ meets_route route path inner.1 in
+    let met : meets s.pattern path ≡ pointwise stands_for (segments route) (segments path) = ap (λ t. meets t path) pattern ∙ meets_route route path inner.1 in
     ap value_of (met_row-placed s.pattern (route_from s value) rows path outer.1)
     ∙ value_of-or_else (met_row rows path) (meets s.pattern path) (route_from s value)
     ∙ ap (λ v. or_else (value_of (met_row rows path)) (only_if v value)) met
@@ -87,8 +90,8 @@ met_row-rows_with (r ∷ table) rows path new =
     let parts = both (is_new (parse_route r.0) r.0 rows) (are_new table (added (parse_route r.0) r.1 rows)) new in
     met_row-rows_with table (added (parse_route r.0) r.1 rows) path parts.1
     ∙ ap (λ found. or_else found (route_in table path)) (added_leads (parse_route r.0) r.0 r.1 rows path parts.0)
-    ∙ or_else_assoc (value_of (met_row rows path)) (only_if (fits (segments r.0) (segments path)) r.1) (route_in table path)
-    ∙ ap (or_else (value_of (met_row rows path))) (or_else_only_if (fits (segments r.0) (segments path)) r.1 (route_in table path))
+    ∙ or_else_assoc (value_of (met_row rows path)) (only_if (pointwise stands_for (segments r.0) (segments path)) r.1) (route_in table path)
+    ∙ ap (or_else (value_of (met_row rows path))) (or_else_only_if (pointwise stands_for (segments r.0) (segments path)) r.1 (route_in table path))
 
 -- what a router of this table finds
 pub first-rows_with : {T : Type 0} (table : List (List ℕ × T)) (rows : RowsOf (RouteOf T)) (path : List ℕ) → all_bytes path ≡ true → are_routes table ≡ true

@@ -1,20 +1,18 @@
 -- What a query says to a call that names its keys.
 use Rattle.std.specs.Prelude.{ℕ, List, [], ◌∷◌, Bool, true, not, nat_le, ◌&&◌, bytes_eq, Option, Some, None, option_and_then, if◌then◌else◌}
 use Rattle.std.specs.List.{list_any}
-use Rattle.request_target.specs.Pairs.{Pair, query_pairs, has_replacement}
+use Rattle.request_target.specs.Pairs.{query_pairs, has_replacement}
 use Rattle.request_target.specs.Numbers.{decimal_number}
 
--- a pair without U+FFFD, whose key the call names
-abbrev pub is_clean : List (List ℕ) → Pair → Bool
-is_clean keys p = not (has_replacement p.0) && not (has_replacement p.1) && list_any (λ k. bytes_eq p.0 k) keys
-
--- so are all, and no key is given twice
-abbrev pub are_clean : List (List ℕ) → List Pair → Bool
+-- each pair is without U+FFFD, the call names its key, and no key is given twice
+abbrev pub are_clean : List (List ℕ) → List (List ℕ × List ℕ) → Bool
 are_clean keys [] = true
-are_clean keys (p ∷ pairs) = is_clean keys p && not (list_any (λ q. bytes_eq q.0 p.0) pairs) && are_clean keys pairs
+are_clean keys (p ∷ pairs) =
+    (not (has_replacement p.0) && not (has_replacement p.1) && list_any (λ k. bytes_eq p.0 k) keys)
+    && not (list_any (λ q. bytes_eq q.0 p.0) pairs) && are_clean keys pairs
 
 -- the pairs of a query, where the call takes them
-abbrev pub query_pairs_of : List (List ℕ) → List ℕ → Option (List Pair)
+abbrev pub query_pairs_of : List (List ℕ) → List ℕ → Option (List (List ℕ × List ℕ))
 query_pairs_of keys query = if are_clean keys (query_pairs query) then Some (query_pairs query) else None
 
 -- the value of a key, by a list of keys and values

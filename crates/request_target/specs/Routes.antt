@@ -1,6 +1,8 @@
 -- Which route a path has. Paths are compared segment by segment, as they are written.
-use Rattle.std.specs.Prelude.{ℕ, List, [], ◌∷◌, length, Bool, true, false, ◌==◌, ◌&&◌, nat_lt, bytes_eq, Option, Some, None, if◌then◌else◌}
+use Rattle.std.specs.Prelude.{ℕ, List, [], ◌∷◌, length, Bool, false, ◌==◌, nat_lt, bytes_eq, Option, Some, None, if◌then◌else◌}
+use Rattle.std.specs.Cmp.Lexicographic.{pointwise}
 use Rattle.std.specs.List.{slice_split}
+use Rattle.std.specs.Str.{is_utf8}
 
 -- what stands before, between and after the slashes
 abbrev pub segments : List ℕ → List (List ℕ)
@@ -15,14 +17,11 @@ is_parameter (b ∷ rest) = b == 123
 abbrev pub stands_for : List ℕ → List ℕ → Bool
 stands_for part segment = if is_parameter part then nat_lt 0 (length segment) else bytes_eq part segment
 
--- each part of a route stands for the segment at its place
-abbrev pub fits : List (List ℕ) → List (List ℕ) → Bool
-fits [] [] = true
-fits [] (segment ∷ rest) = false
-fits (part ∷ parts) [] = false
-fits (part ∷ parts) (segment ∷ rest) = stands_for part segment && fits parts rest
-
--- what the path's route leads to, by a table of routes
+-- what the path's route leads to, by a table of routes, each part of which stands for the segment at its place
 abbrev pub route_in : {T : Type 0} → List (List ℕ × T) → List ℕ → Option T
 route_in [] path = None
-route_in (r ∷ table) path = if fits (segments r.0) (segments path) then Some r.1 else route_in table path
+route_in (r ∷ table) path = if pointwise stands_for (segments r.0) (segments path) then Some r.1 else route_in table path
+
+-- the same of a path in bytes: what is no text leads nowhere
+unfoldable pub route_of : {T : Type 0} → List (List ℕ × T) → List ℕ → Option T
+route_of table path = if is_utf8 path then route_in table path else None

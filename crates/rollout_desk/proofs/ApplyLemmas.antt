@@ -166,7 +166,7 @@ module _ (a b : State) (begins : Begins HoldsLedger a b) (c d : State) where
                 (stands d (h ▸ command) longer (subst (IsAtRest HoldsRecords d) (sym follows) (rests_records d (step_records r command) (it.1 _ done.0) clean)))
             | inr it ↦ in_doubt h was.valid d (Do command) reply it.0 (λ db left. elim ((it.1 _ _ done.0 (goes _ (opened h was)).spoiled clean).crash db left) [
               | inl one ↦ inl (was.valid, readable db r one)
-              | inr one ↦ inr (subst (λ (o : Option Command). HoldsList db (followed_by h (Rattle.rollout_machine.specs.Requests.one o)))
+              | inr one ↦ inr (subst (λ (o : Option Command). HoldsList db (followed_by h (Rattle.std.specs.Option.option_to_list o)))
                   (sym (ap (λ (x : Answer). x.accepted) is)) (longer, readable db _ (subst (HoldIn HoldsRecords db) (sym follows) one)))
             ])
           ];

@@ -22,15 +22,16 @@ pub use Rattle.rollout_model.specs.declared.refusal.Refusal.TheVariants.{NoMemor
 pub use Rattle.rollout_machine.proofs.Answering.{accepted_step, query_answer, refused_answer}
 pub use Rattle.rollout_machine.proofs.Main.{records_step}
 pub use Rattle.rollout_machine.proofs.StoreFailures.{answer_never_stores, failed_true}
-pub use Rattle.rollout_machine.specs.Answers.{Answer, MayAnswer, answer, artifact_if, artifact_named, artifact_of_module, for_device, if_found, is_offer_of}
+pub use Rattle.rollout_machine.specs.Answers.{Answer, MayAnswer, answer, artifact_named, artifact_of_module, for_device, if_found, is_offer_of}
 pub use Rattle.rollout_machine.specs.Answers.{modules_offered, query_reply, targets_reply}
 pub use Rattle.rollout_machine.specs.ByteStrings.{contains_word, item_numbered, same_bytes}
 pub use Rattle.rollout_machine.specs.CommandList.{CommandList, Make, followed_by, ◌▸◌}
 pub use Rattle.rollout_machine.specs.Commands.{Bytes, Command, Credential, TargetRow}
 pub use Rattle.rollout_machine.specs.RecordSteps.{step_records}
-pub use Rattle.rollout_machine.specs.Records.{ArtifactRecord, Records, added_artifacts, artifacts, records}
+pub use Rattle.rollout_machine.specs.Records.{ArtifactRecord, Records, artifacts, records}
 pub use Rattle.rollout_machine.specs.Replies.{ArtifactShown, ContentsShown, PollShown, Refused, Reply}
-pub use Rattle.rollout_machine.specs.Requests.{Ask, Asked, Asks, Do, Download, Page, Poll, Query, Request, ShowArtifact, ShowContents, one}
+pub use Rattle.rollout_machine.specs.Requests.{Ask, Asked, Asks, Do, Download, Page, Poll, Query, Request, ShowArtifact, ShowContents}
+pub use Rattle.std.specs.Option.{option_to_list as one}
 pub use Rattle.rollout_machine.specs.Standing.{Applies, AppliesAt, Becomes, DeskState, IsInDoubt, StandsFor, StaysStopped}
 pub use Rattle.rollout_machine.specs.StoreFailures.{is_failed_store, is_store}
 pub use Rattle.rollout_machine.specs.Validity.{IsValid}
@@ -47,7 +48,7 @@ pub use Rattle.desk_records.specs.Readable.{HoldsReadable}
 pub use Rattle.desk_records.specs.Tables.{HoldsTables, Tables}
 pub use Rattle.desk_store.specs.declared.change.OpenChange.{OpenChange}
 pub use Rattle.desk_opening.specs.Reopening.{BeginsPlain, Reopens}
-pub use Rattle.rollout_desk.specs.Changes.{EndsByCommit, EndsByRollback, Handles, refusal_of_fault}
+pub use Rattle.rollout_desk.specs.private.Changes.{EndsByCommit, EndsByRollback, Handles, refusal_of_fault}
 pub use Rattle.rollout_desk.specs.DeskStates.{desk_state}
 pub use Rattle.rollout_desk.specs.Desks.{HoldsList, desk_state_at}
 pub use Rattle.rollout_desk.specs.Downloads.{BeginsOffered, DownloadsGoOn, HandsItsArtifact, IsNextOf, RefusesContents, artifact_in}
@@ -57,3 +58,4 @@ pub use Rattle.rollout_desk.specs.Promises.{Describes, DownloadsItsOffer, IsProm
 pub use Rattle.rollout_desk.specs.Runs.{BreaksOff, EndsRun, RequestExchange, GoesOn, IsRun, RunsThrough, accepted_of}
 pub use Rattle.rollout_desk.specs.Sizes.{AnswersIn, KeepsOffer, KeepsOffers, KeepsSizes}
 pub use Rattle.rollout_desk.specs.Verifying.{FindsDamage, HasCause, IsNeverDamaged}
+pub use Rattle.rollout_machine.proofs.Words.{added_artifacts, artifact_if}

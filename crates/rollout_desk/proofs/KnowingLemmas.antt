@@ -4,8 +4,7 @@ use Rattle.rollout_desk.proofs.Common.{arith, Database, State, Answer, MayAnswer
 use Rattle.rollout_desk.proofs.Common.{followed_by, Command, Records, Reply, Request, Query, Ask, Asks, Do, one, AppliesAt}
 use Rattle.rollout_desk.proofs.Common.{IsInDoubt, StandsFor, query_answer, desk_state_at}
 use Rattle.std.specs.Prelude.{map}
-use Rattle.rollout_machine.specs.Answers.{answer, command_answer}
-use Rattle.rollout_machine.specs.Objects.{targets_shown}
+use Rattle.rollout_machine.specs.Answers.{answer}
 use Rattle.rollout_machine.specs.Records.{records}
 use Rattle.rollout_machine.specs.Targets.{Target}
 use Rattle.rollout_machine.specs.Verdicts.{verdict}
@@ -13,7 +12,8 @@ use Rattle.desk_records.specs.Targets.{ids_of}
 use Rattle.rollout_machine.specs.Commands.{Bytes}
 use Rattle.rollout_machine.specs.Targets.{target_ids, target_in}
 use Rattle.rollout_desk.specs.Desks.{AreIdsOf, Known, desk_state_knowing}
-use Rattle.rollout_desk.specs.Knowing.{known_behind}
+use Rattle.rollout_desk.specs.private.Knowing.{known_behind}
+use Rattle.rollout_machine.proofs.Words.{command_answer, targets_shown}
 
 -- ---- with what is known, and without it
 

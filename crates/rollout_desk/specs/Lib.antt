@@ -1,7 +1,5 @@
 pub mod Desks
 pub mod DeskStates
-pub mod Knowing
-pub mod Changes
 pub mod Openings
 pub mod Runs
 pub mod Once
@@ -14,3 +12,4 @@ pub mod Sizes
 pub mod Causes
 pub mod Conduct
 pub mod Counting
+pub mod private

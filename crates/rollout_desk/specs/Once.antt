@@ -1,4 +1,5 @@
 -- Runs in which something comes again: feedback on an action that has its outcome, or an import that directly follows an equal one.
+use Rattle.std.specs.Option.{option_to_list}
 use Rattle.std.specs.Prelude.{◌⊎◌, List, [], ◌∷◌, ◌++◌, map, IfOk, Result, Vec}
 use Rattle.std.specs.declared.alloc.Global.{Global}
 use Rattle.sqlite.specs.Store.{Ghosts}
@@ -8,7 +9,7 @@ use Rattle.rollout_machine.specs.Answers.{MayAnswer}
 use Rattle.rollout_machine.specs.CommandList.{CommandList, followed_by}
 use Rattle.rollout_machine.specs.Repeats.{without_repeats}
 use Rattle.rollout_machine.specs.Replies.{Reply}
-use Rattle.rollout_machine.specs.Requests.{Request, Asks, one}
+use Rattle.rollout_machine.specs.Requests.{Request, Asks}
 use Rattle.rollout_machine.specs.Standing.{DeskState, StandsFor, IsInDoubt}
 use Rattle.rollout_machine.specs.Views.{reply_of}
 use Rattle.rollout_desk.specs.DeskStates.{desk_state}
@@ -19,7 +20,7 @@ use Rattle.rollout_desk.specs.declared.desk.Desk.{Desk}
 -- each request is answered as at the list so far without its repeats
 abbrev pub AnswersOnce : CommandList → List RequestExchange → Type 0
 AnswersOnce h [] = Unit {0}
-AnswersOnce h (x ∷ xs) = MayAnswer (without_repeats h) (Asks x.request) x.reply x.accepted × AnswersOnce (followed_by h (one x.accepted)) xs
+AnswersOnce h (x ∷ xs) = MayAnswer (without_repeats h) (Asks x.request) x.reply x.accepted × AnswersOnce (followed_by h (option_to_list x.accepted)) xs
 
 -- every request was answered, and what came again left no trace: the desk stands for the list without its repeats
 pub record RunsOnce {File : Type 0} (h : CommandList) (s : DeskState File) (requests : List Request) (replies : List Reply) : Type 0 where

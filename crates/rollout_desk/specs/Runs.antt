@@ -1,4 +1,5 @@
 -- Runs of a desk over a list of requests.
+use Rattle.std.specs.Option.{option_to_list}
 use Rattle.std.specs.Prelude.{◌≡◌, ◌≢◌, ◌⊎◌, List, [], ◌∷◌, ◌++◌, map, Option, Result, Vec, All, MatchResult}
 use Rattle.std.specs.declared.alloc.Global.{Global}
 use Rattle.std.specs.List.{flat_map}
@@ -10,7 +11,7 @@ use Rattle.rollout_machine.specs.Answers.{MayAnswer}
 use Rattle.rollout_machine.specs.Commands.{Command}
 use Rattle.rollout_machine.specs.CommandList.{CommandList, followed_by}
 use Rattle.rollout_machine.specs.Replies.{Reply, Refused}
-use Rattle.rollout_machine.specs.Requests.{Request, Asks, one}
+use Rattle.rollout_machine.specs.Requests.{Request, Asks}
 use Rattle.rollout_machine.specs.Standing.{DeskState, StandsFor, IsInDoubt}
 use Rattle.rollout_machine.specs.Validity.{IsValid}
 use Rattle.rollout_machine.specs.Views.{reply_of}
@@ -31,12 +32,12 @@ abbrev pub replies_of : List RequestExchange → List Reply
 replies_of run = map (λ x. x.reply) run
 
 abbrev pub accepted_of : List RequestExchange → List Command
-accepted_of run = flat_map (λ x. one x.accepted) run
+accepted_of run = flat_map (λ x. option_to_list x.accepted) run
 
 -- each request is answered at the list so far
 abbrev pub IsRun : CommandList → List RequestExchange → Type 0
 IsRun h [] = Unit {0}
-IsRun h (x ∷ xs) = MayAnswer h (Asks x.request) x.reply x.accepted × IsRun (followed_by h (one x.accepted)) xs
+IsRun h (x ∷ xs) = MayAnswer h (Asks x.request) x.reply x.accepted × IsRun (followed_by h (option_to_list x.accepted)) xs
 
 -- no store failed
 abbrev pub GoesOn : List RequestExchange → Type 0

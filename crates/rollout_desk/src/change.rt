@@ -6,7 +6,7 @@ ghost use Rattle.rollout_machine.specs.Requests.{Do, Ask};
 ghost use Rattle.rollout_machine.specs.StoreFailures.{is_failed_store};
 ghost use Rattle.rollout_machine.specs.Views.{command_of, query_of, reply_of};
 ghost use Rattle.rollout_desk.specs.Sizes.{AnswersIn, KeepsToTables, ReadsAnswer};
-ghost use Rattle.rollout_desk.specs.Changes.{EndsChange, EndsByCommit, EndsByRollback, RunsRequest};
+ghost use Rattle.rollout_desk.specs.private.Changes.{EndsChange, EndsByCommit, EndsByRollback, RunsRequest};
 ghost use Rattle.desk_reads.specs.AtLists.{FailsAtListsIn};
 ghost use Rattle.desk_commands.specs.Bounds.{AddsWithin};
 ghost use Rattle.desk_store.specs.Changing.{StaysIn};

@@ -4,7 +4,7 @@ ghost use Rattle.std.specs.Prelude.{◌≡◌, ◌<◌, ◌^◌, length, Some, N
 ghost use Rattle.sqlite.specs.Held.{state};
 ghost use Rattle.rollout_machine.specs.Requests.{ShowTargets};
 ghost use Rattle.rollout_machine.specs.Views.{command_of, query_of, reply_of};
-ghost use Rattle.rollout_desk.specs.Knowing.{AnswersKnowing, Learns, known_behind};
+ghost use Rattle.rollout_desk.specs.private.Knowing.{AnswersKnowing, Learns, known_behind};
 ghost use Rattle.rollout_desk.specs.Sizes.{KeepsToTables};
 
 use crate::change::run_query;

@@ -6,7 +6,7 @@ ghost use Rattle.sqlite.specs.Held.{state};
 ghost use Rattle.desk_records.specs.Artifacts.{piece_numbered};
 ghost use Rattle.desk_records.specs.Holds.{HoldsRecords};
 ghost use Rattle.rollout_desk.specs.Causes.{FailsByCalls};
-ghost use Rattle.rollout_desk.specs.Changes.{EndsChange};
+ghost use Rattle.rollout_desk.specs.private.Changes.{EndsChange};
 ghost use Rattle.desk_store.specs.Changing.{StaysIn, seen_in};
 ghost use Rattle.sql_calls.specs.Standing.{Wears};
 ghost use Rattle.desk_store.specs.declared.change.OpenChange.{OpenChange};

@@ -3,7 +3,7 @@
 ghost use Rattle.std.specs.Prelude.{◌≡◌};
 ghost use Rattle.rollout_machine.specs.Replies.{Refused};
 ghost use Rattle.rollout_machine.specs.Views.{reply_of};
-ghost use Rattle.rollout_desk.specs.Changes.{refusal_of_fault};
+ghost use Rattle.rollout_desk.specs.private.Changes.{refusal_of_fault};
 
 use desk_store::Fault;
 use rollout_model::{Refusal, Reply};

@@ -79,9 +79,9 @@ heard_action : (h : CommandList) (c : Command) (p : ActionPlace) → is_heard h 
     ≡ action_after c (action_in h p)
 heard_action h c p e = grind (arith, same_action, cancels)
 
-pub on_action : (h : CommandList) (c : Command) (p : ActionPlace) → is_on_action h c p.rollout p.position ≡ true → is_again (history h p.rollout p.position) c
+pub is_some_and : (h : CommandList) (c : Command) (p : ActionPlace) → is_on_action h c p.rollout p.position ≡ true → is_again (history h p.rollout p.position) c
     ≡ false → action_in (h ▸ c) p ≡ action_after c (action_in h p)
-on_action h c p on n = go (outcome h p.rollout p.position) refl
+is_some_and h c p on n = go (outcome h p.rollout p.position) refl
   where
     go : (o : Option Outcome) → outcome h p.rollout p.position ≡ o → action_in (h ▸ c) p ≡ action_after c (action_in h p)
     go (Some o) e = closed_action h c p o e ∙ sym (closed_after h c p o e)
@@ -105,7 +105,7 @@ one_action h c q p t n = go (is_same_action (action_in h p) (action_in h q)) ref
         ≡ cond b (action_after c (action_in h p)) (action_in h p)
     go true e =
         let on : is_on_action h c p.rollout p.position ≡ true = ap (λ o. is_action_place o p.rollout p.position) t ∙ e in
-        on_action h c p on (sym (ap (λ (s : ActionPlace). is_again (history h s.rollout s.position) c) (same_place h c q p t on)) ∙ n)
+        is_some_and h c p on (sym (ap (λ (s : ActionPlace). is_again (history h s.rollout s.position) c) (same_place h c q p t on)) ∙ n)
     go false e = off_action h c p (ap (λ o. is_action_place o p.rollout p.position) t ∙ e)
 
 -- what finds its action closed, or is sent again, leaves all

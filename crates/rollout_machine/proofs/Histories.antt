@@ -5,7 +5,7 @@ use Rattle.rollout_machine.proofs.Common.{is_none, option_or, history, outcome, 
 use Rattle.rollout_machine.proofs.Common.{Command, Cancel, CancelFeedback, Feedback, Outcome, Gone, HistoryEntry, Reported, entries_in, reported_by}
 use Rattle.std.specs.Prelude.{◌⊎◌}
 use Rattle.rollout_machine.specs.ByteStrings.{item_numbered}
-use Rattle.rollout_machine.specs.Histories.{first_outcome}
+use Rattle.rollout_machine.specs.private.Histories.{first_outcome}
 use Rattle.rollout_machine.specs.Records.{ActionRecord, records}
 use Rattle.rollout_machine.proofs.Actions.{append_none, entries_both}
 use Rattle.rollout_machine.proofs.AtNumbers.{has_place}

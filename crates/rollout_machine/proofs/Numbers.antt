@@ -4,7 +4,7 @@ use Rattle.rollout_machine.proofs.Common.{Some, None, is_none, nat_eq, nat_lt, s
 use Rattle.rollout_machine.proofs.Common.{reports, CommandList, Make, ◌▸◌, CancelFeedback, Command, Feedback, Outcome, ActionRecord, action_in, records, Again}
 use Rattle.rollout_machine.proofs.Common.{Fresh, HistoryEntry, Numbered, OfCancel, OfDeployment, Old, Reported, Standing, against, bearing, is_again}
 use Rattle.rollout_machine.proofs.Common.{numbered_if, reported, reported_by, same_entry, says_again, says_old, standing_by, standing_of, IsValid, is_old}
-use Rattle.rollout_machine.proofs.Common.{on_action, verdict, verdict_row}
+use Rattle.rollout_machine.proofs.Common.{is_some_and, verdict, verdict_row}
 use Rattle.rollout_machine.specs.Promises.{NumbersRise, NumbersRiseIn}
 use Rattle.rollout_machine.proofs.Actions.{append_none, open_reports}
 use Rattle.rollout_machine.proofs.AtNumbers.{has_place}
@@ -103,7 +103,8 @@ heard_rises h (Feedback feedback) r j v d e w =
     let c : Command = Feedback feedback in
     let new : Reported = reported OfDeployment feedback in
     let p : (action_place h feedback.action ≡ Some (record { rollout = r; position = j })) × (is_again (reports h r j) c ≡ false) = placed h c r j d in
-    let old : is_old new (action_in h (record { rollout = r; position = j })) ≡ false = sym (ap (on_action (is_old new)) (found_action h feedback.action _ p.0))
+    let old : is_old new (action_in h (record { rollout = r; position = j })) ≡ false =
+    sym (ap (is_some_and (is_old new)) (found_action h feedback.action _ p.0))
     ∙ (none_holds (verdict_row (records h) c) v).1.1.1.0 in
     fresh_rises (history h r j) new w
     (fresh_by _ (sym (ap (λ heard. is_again heard c) (open_reports h r j e)) ∙ p.1)
@@ -112,7 +113,8 @@ heard_rises h (CancelFeedback feedback) r j v d e w =
     let c : Command = CancelFeedback feedback in
     let new : Reported = reported OfCancel feedback in
     let p : (action_place h feedback.action ≡ Some (record { rollout = r; position = j })) × (is_again (reports h r j) c ≡ false) = placed h c r j d in
-    let old : is_old new (action_in h (record { rollout = r; position = j })) ≡ false = sym (ap (on_action (is_old new)) (found_action h feedback.action _ p.0))
+    let old : is_old new (action_in h (record { rollout = r; position = j })) ≡ false =
+    sym (ap (is_some_and (is_old new)) (found_action h feedback.action _ p.0))
     ∙ (none_holds (verdict_row (records h) c) v).1.1.1.0 in
     fresh_rises (history h r j) new w
     (fresh_by _ (sym (ap (λ heard. is_again heard c) (open_reports h r j e)) ∙ p.1)

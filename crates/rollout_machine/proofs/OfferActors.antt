@@ -9,11 +9,12 @@ use Rattle.rollout_machine.proofs.OfferCommon.{same_refl, same_true, IsPlace, No
 use Rattle.rollout_machine.proofs.OfferCommon.{OffersAfterNone, OffersAfterStart, OffersOfActor, acted, actor, group_offers, member_of, offers_from, put_offers}
 use Rattle.rollout_machine.proofs.OfferCommon.{offers_before_start, with_actor}
 use Rattle.rollout_machine.specs.Records.{records}
-use Rattle.rollout_machine.specs.Verdicts.{is_device_action, on_action, verdict_row}
+use Rattle.rollout_machine.specs.Verdicts.{is_device_action, verdict_row}
 use Rattle.rollout_machine.proofs.Offers.{member_is as own_member}
 use Rattle.rollout_machine.proofs.OfferFolds.{put_same}
 use Rattle.rollout_machine.proofs.OfferLaws.{offer_of_others, offers_of_no_start, offers_of_start}
 use Rattle.rollout_machine.proofs.OfferPlaces.{IsAt, found, later, placed}
+use Rattle.rollout_machine.specs.Ranges.{is_some_and}
 
 -- ---- the rows of a group
 
@@ -59,14 +60,14 @@ device_one : (h : CommandList) (u : Bytes) (k : ℕ) (p : ActionPlace) → actio
 device_one h u k p at e = grind (arith, found_action)
 
 on_one : (h : CommandList) (u : Bytes) (k : ℕ) (p : ActionPlace) → action_place h k ≡ Some p
-    → on_action (is_for (records h) u) (item_numbered (records h).actions k) ≡ true → is_for (records h) u (action_in h p) ≡ true
-on_one h u k p at e = sym (ap (on_action (is_for (records h) u)) (found_action h k (Some p) at)) ∙ e
+    → is_some_and (is_for (records h) u) (item_numbered (records h).actions k) ≡ true → is_for (records h) u (action_in h p) ≡ true
+on_one h u k p at e = sym (ap (is_some_and (is_for (records h) u)) (found_action h k (Some p) at)) ∙ e
 
 -- the command is on no action of any other id
 pub is_on_other : (h : CommandList) (c : Command) (t : Bytes) → IsValid (h ▸ c) → actor c ≢ Some t → IsOnOther h c t
 is_on_other h (Cancel u k force) t v apart p x at there =
     let row : NoneHolds (verdict_row (records h) (Cancel u k force)) = none_holds (verdict_row (records h) (Cancel u k force)) v.2 in
-    let mine : on_action (is_for (records h) u) (item_numbered (records h).actions k) ≡ true = not-false _ (or_parts _ _ row.0).1 in
+    let mine : is_some_and (is_for (records h) u) (item_numbered (records h).actions k) ≡ true = not-false _ (or_parts _ _ row.0).1 in
     on_own h u p ((invariant_of h v.0).placed k p at) (on_one h u k p at mine) t (λ e. apart (ap (λ (i : Bytes). Some i) e)) x there
 is_on_other h (Feedback feedback) t v apart p x at there =
     let device : is_device_action (records h) feedback.credential.id (item_numbered (records h).actions feedback.action) ≡ true =

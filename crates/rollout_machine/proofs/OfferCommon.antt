@@ -10,7 +10,7 @@ pub use Rattle.rollout_machine.proofs.Recounts.{new_rollout_there, stays_there}
 pub use Rattle.rollout_machine.proofs.TargetTies.{same_refl, same_true}
 pub use Rattle.rollout_machine.proofs.Valid.{IsPlace, NoneHolds, found_action, has_started_is, its_group, none_holds}
 pub use Rattle.rollout_machine.proofs.Whole.{IsAccepted, rollout_numbered}
-pub use Rattle.rollout_machine.specs.Actions.{ActionPlace, action_of, action_place, action_places, cancel_stands, is_action_place, is_on_action, new_places}
+pub use Rattle.rollout_machine.specs.Actions.{ActionPlace, action_of, action_place, action_places, cancel_stands, is_on_action, new_places}
 pub use Rattle.rollout_machine.specs.Actions.{outcome}
 pub use Rattle.rollout_machine.specs.ByteStrings.{item_numbered, same_bytes}
 pub use Rattle.rollout_machine.specs.CommandList.{CommandList, Make, ◌▸◌}
@@ -19,7 +19,7 @@ pub use Rattle.rollout_machine.specs.Effects.{HasSoundPlan, IsInGroup, StartedOn
 pub use Rattle.rollout_machine.specs.Groups.{holds_position}
 pub use Rattle.rollout_machine.specs.Kinds.{TargetOffer}
 pub use Rattle.rollout_machine.specs.Offers.{Offer, first_offer, offer}
-pub use Rattle.rollout_machine.specs.Progress.{is_group_started, is_start_of}
+pub use Rattle.rollout_machine.specs.Progress.{is_group_started}
 pub use Rattle.rollout_machine.specs.Promises.{StartsGroup}
 pub use Rattle.rollout_machine.specs.Ranges.{each_from}
 pub use Rattle.rollout_machine.specs.Records.{Records, action_in, group_in, rollout_in}
@@ -35,3 +35,4 @@ pub use Rattle.rollout_machine.specs.GroupOffers.{OffersAfterStart, OffersById, 
 pub use Rattle.rollout_machine.specs.GroupOffers.{StartedByAnyThen, acted, actor, group_offers, lesser, member_of, offers_before_start, offers_from, put_offer}
 pub use Rattle.rollout_machine.specs.GroupOffers.{put_offers, with_actor, with_offer_at}
 pub use Rattle.std.proofs.Math.Bool.{and-false, or-false}
+pub use Rattle.rollout_machine.proofs.Words.{is_action_place, is_start_of}

@@ -1,10 +1,11 @@
 -- A feedback on an action that has its outcome changes no record, and neither does an import that comes twice.
+use Rattle.std.specs.Cmp.Lexicographic.{pointwise}
 use native.Mathlib.Omega.{arith}
 use Rattle.rollout_machine.proofs.Common.{List, [], ◌∷◌, ◌||◌, cond, Option, None, subst, inl, inr, ◌≡◌, Bool, true, false, ◌&&◌, refl, sym, ◌∙◌, ap, Some}
 use Rattle.rollout_machine.proofs.Common.{answer, command_reply, Asked, Asks, Do, Ask, Refusal, ActionPlace, action_places, action_place}
-use Rattle.rollout_machine.proofs.Common.{contains_word, with_words, same_bytes, same_words, with_word, CommandList, ◌▸◌, Make, Command, Feedback, Bytes}
+use Rattle.rollout_machine.proofs.Common.{contains_word, with_words, same_bytes, with_word, CommandList, ◌▸◌, Make, Command, Feedback, Bytes}
 use Rattle.rollout_machine.proofs.Common.{PutTargets, TargetRow, CancelFeedback, step_records, rollouts_in, action_in, needs_approval, modules, artifacts, sets}
-use Rattle.rollout_machine.proofs.Common.{without_repeats, is_doubled, same_rows, same_row, IsTraceless, is_had, RepeatsLeaveNoTrace, is_repeat, rollouts}
+use Rattle.rollout_machine.proofs.Common.{without_repeats, is_doubled, same_row, IsTraceless, is_had, RepeatsLeaveNoTrace, is_repeat, rollouts}
 use Rattle.rollout_machine.proofs.Common.{target_in, last_row_of, tags_in, target_ids, targets, attributes_in, Target, last_row_for, tags_by_row, IsValid}
 use Rattle.rollout_machine.proofs.Common.{verdict, check, option_or, unwrap_or, false≢true, cases_Bool, and_parts}
 use Rattle.rollout_machine.specs.Requests.{Rejected}
@@ -72,12 +73,12 @@ import_twice g rows v e =
 
 -- ---- equality by tests
 
-words_same : (ws vs : List Bytes) → same_words ws vs ≡ true → ws ≡ vs
+words_same : (ws vs : List Bytes) → pointwise same_bytes ws vs ≡ true → ws ≡ vs
 words_same [] [] e = refl
 words_same [] (v ∷ vs) e = cc
 words_same (w ∷ ws) [] e = cc
 words_same (w ∷ ws) (v ∷ vs) e =
-    let parts : (same_bytes w v ≡ true) × (same_words ws vs ≡ true) = and_parts _ _ e in
+    let parts : (same_bytes w v ≡ true) × (pointwise same_bytes ws vs ≡ true) = and_parts _ _ e in
     let head : w ≡ v = same_true w v parts.0 in
     let tail : ws ≡ vs = words_same ws vs parts.1 in
     rw (head, tail) refl
@@ -87,21 +88,21 @@ row_from i n d ts = record { id = i; name = n; digest = d; tags = ts }
 
 row_same : (a b : TargetRow) → same_row a b ≡ true → a ≡ b
 row_same a b e =
-    let one : (same_bytes a.id b.id ≡ true) × ((same_bytes a.name b.name && (same_bytes a.digest b.digest && same_words a.tags b.tags)) ≡ true) =
+    let one : (same_bytes a.id b.id ≡ true) × ((same_bytes a.name b.name && (same_bytes a.digest b.digest && pointwise same_bytes a.tags b.tags)) ≡ true) =
     and_parts _ _ e in
-    let more : (same_bytes a.name b.name ≡ true) × ((same_bytes a.digest b.digest && same_words a.tags b.tags) ≡ true) = and_parts _ _ one.1 in
-    let rest : (same_bytes a.digest b.digest ≡ true) × (same_words a.tags b.tags ≡ true) = and_parts _ _ more.1 in
+    let more : (same_bytes a.name b.name ≡ true) × ((same_bytes a.digest b.digest && pointwise same_bytes a.tags b.tags) ≡ true) = and_parts _ _ one.1 in
+    let rest : (same_bytes a.digest b.digest ≡ true) × (pointwise same_bytes a.tags b.tags ≡ true) = and_parts _ _ more.1 in
     parts _ _ _ _ _ _ _ _ (same_true _ _ one.0) (same_true _ _ more.0) (same_true _ _ rest.0) (words_same _ _ rest.1)
   where
     parts : (i i' n n' d d' : Bytes) (ts ts' : List Bytes) → i ≡ i' → n ≡ n' → d ≡ d' → ts ≡ ts' → row_from i n d ts ≡ row_from i' n' d' ts'
     parts i i' n n' d d' ts ts' e f g k = rw (e, f, g, k) refl
 
-rows_same : (as' bs : List TargetRow) → same_rows as' bs ≡ true → as' ≡ bs
+rows_same : (as' bs : List TargetRow) → pointwise same_row as' bs ≡ true → as' ≡ bs
 rows_same [] [] e = refl
 rows_same [] (b ∷ bs) e = cc
 rows_same (a ∷ as') [] e = cc
 rows_same (a ∷ as') (b ∷ bs) e =
-    let parts : (same_row a b ≡ true) × (same_rows as' bs ≡ true) = and_parts _ _ e in
+    let parts : (same_row a b ≡ true) × (pointwise same_row as' bs ≡ true) = and_parts _ _ e in
     let head : a ≡ b = row_same a b parts.0 in
     let tail : as' ≡ bs = rows_same as' bs parts.1 in
     ap (λ (x : TargetRow). x ∷ as') head ∙ ap (λ xs. b ∷ xs) tail

@@ -5,7 +5,7 @@ use Rattle.rollout_machine.proofs.Common.{nat_eq, option_map, eqb-true, and_part
 use Rattle.rollout_machine.proofs.Common.{action_places, action_place, item_numbered, CommandList, DeviceFeedback, DeploymentWord, CancelWord, Command, Cancel}
 use Rattle.rollout_machine.proofs.Common.{Feedback, CancelFeedback, IsInGroup, HasSoundPlan, StartedOnly, is_group_started, action_in, Refusal, Rollout}
 use Rattle.rollout_machine.proofs.Common.{rollout_at, size_of, has_started, is_started_in, group_is_started, is_for, first_refusal, verdict_row, verdict}
-use Rattle.rollout_machine.proofs.Common.{is_device_action, on_action}
+use Rattle.rollout_machine.proofs.Common.{is_device_action, is_some_and}
 use Rattle.rollout_machine.specs.Records.{records}
 use Rattle.rollout_machine.proofs.Cuts.{IsOwnGroup, group_of, in_its_group, one_group}
 use Rattle.rollout_machine.proofs.Ties.{find_holding}
@@ -104,8 +104,8 @@ cancel_feedback_started h feedback placed e =
     let (p, at, started) = cancel_feedback_place h feedback e in
     only_started h (CancelFeedback feedback) p (placed p at) at started
 
-cancel_action : (h : CommandList) (t : List ℕ) (force : Bool) (o : Option ActionPlace) → not (on_action (is_for (records h) t) (option_map (action_in h) o))
-    ≡ false → on_action (λ a. not (has_started (records h) a) || (a.canceling && not force)) (option_map (action_in h) o) ≡ false → (p : ActionPlace)
+cancel_action : (h : CommandList) (t : List ℕ) (force : Bool) (o : Option ActionPlace) → not (is_some_and (is_for (records h) t) (option_map (action_in h) o))
+    ≡ false → is_some_and (λ a. not (has_started (records h) a) || (a.canceling && not force)) (option_map (action_in h) o) ≡ false → (p : ActionPlace)
     × (o ≡ Some p) × (has_started (records h) (action_in h p) ≡ true)
 cancel_action h t force o a b = grind (arith, not-false)
 
@@ -114,10 +114,10 @@ pub cancel_place : (h : CommandList) (t : List ℕ) (k : ℕ) (force : Bool) →
 cancel_place h t k force e =
     let row : NoneHolds (verdict_row (records h) (Cancel t k force)) = none_holds (verdict_row (records h) (Cancel t k force)) e in
     let found : item_numbered (records h).actions k ≡ option_map (action_in h) (action_place h k) = found_action h k (action_place h k) refl in
-    let there : not (on_action (is_for (records h) t) (option_map (action_in h) (action_place h k))) ≡ false =
-    sym (ap (λ o. not (on_action (is_for (records h) t) o)) found) ∙ (or_parts _ _ row.0).1 in
-    let open' : on_action (λ a. not (has_started (records h) a) || (a.canceling && not force)) (option_map (action_in h) (action_place h k)) ≡ false =
-    sym (ap (on_action (λ a. not (has_started (records h) a) || (a.canceling && not force))) found) ∙ row.1.1.0 in
+    let there : not (is_some_and (is_for (records h) t) (option_map (action_in h) (action_place h k))) ≡ false =
+    sym (ap (λ o. not (is_some_and (is_for (records h) t) o)) found) ∙ (or_parts _ _ row.0).1 in
+    let open' : is_some_and (λ a. not (has_started (records h) a) || (a.canceling && not force)) (option_map (action_in h) (action_place h k)) ≡ false =
+    sym (ap (is_some_and (λ a. not (has_started (records h) a) || (a.canceling && not force))) found) ∙ row.1.1.0 in
     cancel_action h t force (action_place h k) there open'
 
 -- an accepted cancel too

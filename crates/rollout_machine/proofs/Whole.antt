@@ -1,5 +1,5 @@
 -- The records after one more command are the step of the records before it.
-use Rattle.rollout_machine.proofs.Common.{◌≡◌, ℕ, zero, suc, ◌+◌, ◌≤◌, Bool, true, false, cond, ◌&&◌, ◌||◌, List, [], ◌∷◌, ◌++◌, refl, sym, ◌∙◌, ap, subst}
+use Rattle.rollout_machine.proofs.Common.{◌≡◌, ℕ, zero, suc, ◌+◌, ◌≤◌, Bool, true, false, cond, ◌&&◌, ◌||◌, List, [], ◌∷◌, ◌++◌, refl, sym, ◌∙◌, ap, ap₂, subst}
 use Rattle.rollout_machine.proofs.Common.{arith, inl, inr, Option, Some, None, is_some, nat_eq, map, slice_get, or-true, option_map, cases_eq, cases_lt}
 use Rattle.rollout_machine.proofs.Common.{ne_eqb, eq-eqb, eqb-true, false≢true, and_parts, ActionPlace, action_of, is_heard, is_on_action, is_action_place}
 use Rattle.rollout_machine.proofs.Common.{outcome, outcome_given, cancel_stands, is_canceling, action_places, action_place, new_places, places_of, places_from}
@@ -50,7 +50,7 @@ kept h h' a (x ∷ xs) w = rw (w.0, kept h h' (suc a) xs w.1) refl
 get_rollout : (h : CommandList) (a i n : ℕ) (xs : List Rollout) (x : Rollout) → slice_get xs i ≡ Some x → n ≡ a + i → slice_get (rollouts_in h a xs) i
     ≡ Some (rollout_in h n x)
 get_rollout h a i n [] x e d = cc
-get_rollout h a zero n (y ∷ ys) x e d = let s : n ≡ a = omega arith in let t : y ≡ x = cc in rw (s, t) refl
+get_rollout h a zero n (y ∷ ys) x e d = let s : a ≡ n = omega arith in let t : y ≡ x = cc in ap₂ (λ m z. Some (rollout_in h m z)) s t
 get_rollout h a (suc i) n (y ∷ ys) x e d = get_rollout h (suc a) i n ys x e (omega arith)
 
 pub rollout_numbered : (h : CommandList) (r : ℕ) (x : Rollout) → rollout_at h r ≡ Some x → item_numbered (rollouts_in h 1 (rollouts h)) r

@@ -1,11 +1,12 @@
 -- The actions of a command list: their numbers, outcomes and cancels.
 use Rattle.std.specs.Prelude.{ℕ, zero, suc, Bool, true, false, ◌&&◌, not, cond, nat_eq, List, [], ◌∷◌, ◌++◌, Option, Some, None, is_some, is_none}
-use Rattle.std.specs.Option.{option_or}
+use Rattle.std.specs.Option.{option_map_or, option_or}
 use Rattle.rollout_machine.specs.ByteStrings.{item_numbered}
 use Rattle.rollout_machine.specs.CommandList.{CommandList, Make, ◌▸◌}
 use Rattle.rollout_machine.specs.Commands.{DeploymentWord, CancelWord, Succeeded, Failed, Rejected, Noted, ClosedCancel, CanceledCancel}
 use Rattle.rollout_machine.specs.Commands.{RejectedCancel, NotedCancel, Command, Start, Cancel, Feedback, CancelFeedback}
 use Rattle.rollout_machine.specs.Commands.{Outcome, Good, Bad, Gone}
+use Rattle.rollout_machine.specs.Ranges.{each_from, is_some_and}
 use Rattle.rollout_machine.specs.Rollouts.{Rollout, rollout_at, size_of}
 use Rattle.rollout_machine.specs.Reports.{Reported, Said, OfDeployment, OfCancel, is_again, reported_by}
 
@@ -14,16 +15,9 @@ pub record ActionPlace : Type 0 where
   pub rollout : ℕ
   pub position : ℕ
 
-abbrev pub places_from : ℕ → ℕ → ℕ → List ActionPlace
-places_from r first zero = []
-places_from r first (suc n) = record { rollout = r; position = first } ∷ places_from r (suc first) n
-
-abbrev pub places_of : ℕ → Option Rollout → List ActionPlace
-places_of r None = []
-places_of r (Some x) = places_from r 1 (size_of x)
-
+-- a start adds one for each member, in their order
 abbrev pub new_places : CommandList → Command → List ActionPlace
-new_places h (Start r) = places_of r (rollout_at h r)
+new_places h (Start r) = option_map_or (λ (x : Rollout). each_from (λ j. record { rollout = r; position = j }) 1 (size_of x)) (rollout_at h r) []
 new_places h _ = []
 
 -- the actions in the order of their numbers: each start numbers its members on from the last action
@@ -41,12 +35,8 @@ action_of h (Feedback feedback) = action_place h feedback.action
 action_of h (CancelFeedback feedback) = action_place h feedback.action
 action_of h _ = None
 
-abbrev pub is_action_place : Option ActionPlace → ℕ → ℕ → Bool
-is_action_place None r j = false
-is_action_place (Some p) r j = nat_eq p.rollout r && nat_eq p.position j
-
 abbrev pub is_on_action : CommandList → Command → ℕ → ℕ → Bool
-is_on_action h c r j = is_action_place (action_of h c) r j
+is_on_action h c r j = is_some_and (λ (p : ActionPlace). nat_eq p.rollout r && nat_eq p.position j) (action_of h c)
 
 -- what was reported on the action, without what was sent again
 abbrev pub reports : CommandList → ℕ → ℕ → List Reported

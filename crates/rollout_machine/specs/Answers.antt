@@ -1,15 +1,16 @@
 -- What a desk answers, and which command the answer appends.
-use Rattle.std.specs.Prelude.{◌≡◌, ◌≢◌, ◌⊎◌, ℕ, Bool, true, false, ◌&&◌, not, cond, nat_eq, List, [], ◌∷◌, ◌++◌, filter, length, Option, Some, None}
+use Rattle.std.specs.Prelude.{◌≡◌, ◌≢◌, ◌⊎◌, ℕ, Bool, true, false, ◌&&◌, not, cond, nat_eq, List, [], ◌∷◌, map, filter, flat_map, length, Option, Some, None}
+use Rattle.std.specs.Option.{option_and_then, option_map_or, option_to_list}
 use Rattle.std.specs.List.{list_any, find}
 use Rattle.rollout_machine.specs.ByteStrings.{item_numbered, same_bytes}
 use Rattle.rollout_machine.specs.CommandList.{CommandList, ◌▸◌}
 use Rattle.rollout_machine.specs.Commands.{Bytes, Credential, ModuleLabel, SetLabel, Command, AddModule, AddArtifact, AddSet, PutTargets, CreateRollout}
 use Rattle.rollout_machine.specs.Filters.{matches}
 use Rattle.target_filter.specs.Profile.{filter_of}
-use Rattle.target_filter.specs.Grammar.{Tree}
-use Rattle.rollout_machine.specs.Objects.{actions_of_rollout, actions_of_target, action_shown, artifact_shown, artifacts_shown, deployment_shown}
-use Rattle.rollout_machine.specs.Objects.{entry_shown, group_shown, groups_shown, members_in, module_shown, modules_of_action, modules_shown}
-use Rattle.rollout_machine.specs.Objects.{numbered, page_of, report_of, rollout_shown, rollouts_shown, set_shown, target_shown, targets_shown}
+use Rattle.rollout_machine.specs.Objects.{actions_of_target, actions_where, action_shown, artifact_shown, artifacts_shown, chunks_of}
+use Rattle.rollout_machine.specs.Objects.{entry_shown, group_shown, members_in, module_shown, modules_of_action}
+use Rattle.rollout_machine.specs.Objects.{page_of, report_of, rollout_shown, set_shown, target_shown}
+use Rattle.rollout_machine.specs.Ranges.{numbered}
 use Rattle.rollout_machine.specs.Offers.{Offer, offer}
 use Rattle.rollout_machine.specs.Records.{ArtifactRecord, GroupRecord, RolloutRecord, ActionRecord, Records, records}
 use Rattle.rollout_model.specs.declared.refusal.Refusal.{Refusal}
@@ -56,47 +57,29 @@ download rs t m filename =
     cond (list_any (λ n. nat_eq n m) (modules_offered rs (offer rs t)))
     (if_found (λ (a : ArtifactRecord). ContentsShown a.contents) (artifact_named m filename rs.artifacts)) (Refused NotFound)
 
-abbrev pub targets_matching : Records → Page → Option Tree → Reply
-targets_matching rs page None = Refused BadFilter
-targets_matching rs page (Some f) = TargetsShown (page_of page (targets_shown rs (filter (matches f) rs.targets)))
-
 abbrev pub targets_reply : Records → Page → Option Bytes → Reply
-targets_reply rs page None = TargetsShown (page_of page (targets_shown rs rs.targets))
-targets_reply rs page (Some text) = targets_matching rs page (filter_of text)
+targets_reply rs page None = TargetsShown (page_of page (map (target_shown rs) rs.targets))
+targets_reply rs page (Some text) =
+    option_map_or (λ f. TargetsShown (page_of page (map (target_shown rs) (filter (matches f) rs.targets)))) (filter_of text) (Refused BadFilter)
 
 -- an action by its number, where it is one of the target's
-abbrev pub action_if : Records → Bytes → Option ActionRecord → Option ActionRecord
-action_if rs t None = None
-action_if rs t (Some a) = cond (is_for rs t a) (Some a) None
-
 abbrev pub action_of_target : Records → Bytes → ℕ → Option ActionRecord
-action_of_target rs t k = action_if rs t (item_numbered rs.actions k)
+action_of_target rs t k = option_and_then (λ a. cond (is_for rs t a) (Some a) None) (item_numbered rs.actions k)
 
 -- an artifact by its number, where it is one of the module's
-abbrev pub artifact_if : ℕ → Option ArtifactRecord → Option ArtifactRecord
-artifact_if m None = None
-artifact_if m (Some a) = cond (nat_eq a.module_number m) (Some a) None
-
 abbrev pub artifact_of_module : Records → ℕ → ℕ → Option ArtifactRecord
-artifact_of_module rs m k = artifact_if m (item_numbered rs.artifacts k)
+artifact_of_module rs m k = option_and_then (λ (a : ArtifactRecord). cond (nat_eq a.module_number m) (Some a) None) (item_numbered rs.artifacts k)
 
 -- the targets of these ids
-abbrev pub target_if : Option Target → List Target
-target_if None = []
-target_if (Some t) = t ∷ []
-
 abbrev pub targets_of : Records → List Bytes → List Target
-targets_of rs [] = []
-targets_of rs (t ∷ ts) = target_if (target_of rs t) ++ targets_of rs ts
-
-abbrev pub group_reply : RolloutRecord → ℕ → (GroupRecord → Reply) → Reply
-group_reply x i reply = if_found reply (group_numbered i x.groups)
+targets_of rs ts = flat_map (λ t. option_to_list (target_of rs t)) ts
 
 -- the answer to a query by the records
 abbrev pub query_reply : Records → Query → Reply
 query_reply rs (Poll device) = for_device rs device (PollShown device.id (offer rs device.id))
-query_reply rs (ShowDeployment device k) = for_device rs device
-    (cond (is_offer_of k false (offer rs device.id)) (DeploymentShown (deployment_shown rs device.id k)) (Refused NotFound))
+query_reply rs (ShowDeployment device k) = for_device rs device (cond (is_offer_of k false (offer rs device.id))
+    (DeploymentShown (record { target = device.id; action = k; chunks = chunks_of rs (modules_of_action rs (item_numbered rs.actions k)) }))
+    (Refused NotFound))
 query_reply rs (ShowCancel device k) = for_device rs device (cond (is_offer_of k true (offer rs device.id)) (CancelShown k) (Refused NotFound))
 query_reply rs (Download device m filename) = for_device rs device (download rs device.id m filename)
 query_reply rs (ShowTargets filter_text page) = targets_reply rs page filter_text
@@ -105,7 +88,7 @@ query_reply rs (ShowTargetActions t page) = if_found (λ (x : Target). ActionsSh
 query_reply rs (ShowAction t k) = if_found (λ (a : ActionRecord). ActionShown (action_shown rs k a)) (action_of_target rs t k)
 query_reply rs (ShowHistory t k page) = if_found (λ (a : ActionRecord). HistoryShown (page_of page (numbered entry_shown 1 a.history)))
     (action_of_target rs t k)
-query_reply rs (ShowModules page) = ModulesShown (page_of page (modules_shown rs))
+query_reply rs (ShowModules page) = ModulesShown (page_of page (numbered (module_shown rs) 1 rs.modules))
 query_reply rs (ShowModule k) = if_found (λ (label : ModuleLabel). ModuleShown (module_shown rs k label)) (item_numbered rs.modules k)
 query_reply rs (ShowArtifacts m page) = if_found (λ (label : ModuleLabel). ArtifactsShown (page_of page (artifacts_shown m 1 rs.artifacts)))
     (item_numbered rs.modules m)
@@ -113,33 +96,29 @@ query_reply rs (ShowArtifact m k) = if_found (λ (a : ArtifactRecord). ArtifactS
 query_reply rs (ShowContents m k) = if_found (λ (a : ArtifactRecord). ContentsShown a.contents) (artifact_of_module rs m k)
 query_reply rs (ShowSets page) = SetsShown (page_of page (numbered set_shown 1 rs.sets))
 query_reply rs (ShowSet k) = if_found (λ (label : SetLabel). SetShown (set_shown k label)) (item_numbered rs.sets k)
-query_reply rs (ShowRollouts page) = RolloutsShown (page_of page (rollouts_shown rs.rollouts))
+query_reply rs (ShowRollouts page) = RolloutsShown (page_of page (map rollout_shown rs.rollouts))
 query_reply rs (ShowRollout r) = if_found (λ (x : RolloutRecord). RolloutShown (rollout_shown x)) (item_numbered rs.rollouts r)
-query_reply rs (ShowGroups r page) = if_found (λ (x : RolloutRecord). GroupsShown (page_of page (groups_shown x x.groups))) (item_numbered rs.rollouts r)
-query_reply rs (ShowGroup r i) = if_found (λ (x : RolloutRecord). group_reply x i (λ g. GroupShown (group_shown x g))) (item_numbered rs.rollouts r)
+query_reply rs (ShowGroups r page) = if_found (λ (x : RolloutRecord). GroupsShown (page_of page (map (group_shown x) x.groups))) (item_numbered rs.rollouts r)
+query_reply rs (ShowGroup r i) =
+    if_found (λ (x : RolloutRecord). if_found (λ g. GroupShown (group_shown x g)) (group_numbered i x.groups)) (item_numbered rs.rollouts r)
 query_reply rs (ShowGroupTargets r i page) =
-    if_found (λ (x : RolloutRecord). group_reply x i (λ g. TargetsShown (page_of page (targets_shown rs (targets_of rs (members_in g x.members))))))
-    (item_numbered rs.rollouts r)
+    if_found (λ (x : RolloutRecord). if_found (λ g. TargetsShown (page_of page (map (target_shown rs) (targets_of rs (members_in g x.members)))))
+    (group_numbered i x.groups)) (item_numbered rs.rollouts r)
 query_reply rs (ShowReport r) = if_found (λ (x : RolloutRecord). ReportShown (report_of x)) (item_numbered rs.rollouts r)
-query_reply rs (ShowActionsTable r) = if_found (λ (x : RolloutRecord). ActionsTableShown (actions_of_rollout rs r)) (item_numbered rs.rollouts r)
+query_reply rs (ShowActionsTable r) =
+    if_found (λ (x : RolloutRecord). ActionsTableShown (actions_where (λ (a : ActionRecord). nat_eq a.rollout r) rs 1 rs.actions))
+    (item_numbered rs.rollouts r)
 
 -- ---- commands
-
-abbrev pub added_artifact : ℕ → Option ArtifactRecord → Reply
-added_artifact k None = Done
-added_artifact k (Some a) = ArtifactAdded (artifact_shown k a)
-
-abbrev pub added_rollout : Option RolloutRecord → Reply
-added_rollout None = Done
-added_rollout (Some x) = RolloutAdded (rollout_shown x)
 
 -- the reply to an accepted command, by the records after it
 abbrev pub command_reply : Command → Records → Reply
 command_reply (AddModule label) rs = ModuleAdded (module_shown rs (length rs.modules) label)
-command_reply (AddArtifact upload) rs = added_artifact (length rs.artifacts) (item_numbered rs.artifacts (length rs.artifacts))
+command_reply (AddArtifact upload) rs =
+    option_map_or (λ a. ArtifactAdded (artifact_shown (length rs.artifacts) a)) (item_numbered rs.artifacts (length rs.artifacts)) Done
 command_reply (AddSet label) rs = SetAdded (set_shown (length rs.sets) label)
 command_reply (PutTargets rows) rs = TargetsPut (length rows)
-command_reply (CreateRollout plan) rs = added_rollout (item_numbered rs.rollouts (length rs.rollouts))
+command_reply (CreateRollout plan) rs = option_map_or (λ x. RolloutAdded (rollout_shown x)) (item_numbered rs.rollouts (length rs.rollouts)) Done
 command_reply _ rs = Done
 
 -- ---- answers
@@ -149,15 +128,14 @@ pub record Answer : Type 0 where
   pub reply : Reply
   pub accepted : Option Command
 
-abbrev pub command_answer : CommandList → Command → Option Refusal → Answer
-command_answer h c None = record { reply = command_reply c (records (h ▸ c)); accepted = Some c }
-command_answer h c (Some refusal) = record { reply = Refused refusal; accepted = None }
-
 -- the answer of a desk that stands for h
 unfoldable pub answer : CommandList → Asked → Answer
 answer h (Rejected refusal) = record { reply = Refused refusal; accepted = None }
 answer h (Asks request) = elim request [
-  | Do c ↦ command_answer h c (verdict h c)
+  | Do c ↦ elim (verdict h c) [
+    | None ↦ record { reply = command_reply c (records (h ▸ c)); accepted = Some c }
+    | Some refusal ↦ record { reply = Refused refusal; accepted = None }
+  ]
   | Ask query ↦ record { reply = query_reply (records h) query; accepted = None }
 ]
 

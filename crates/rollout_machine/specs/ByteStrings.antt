@@ -19,12 +19,6 @@ contains_word w [] = false
 contains_word w (v ∷ vs) = same_bytes w v || contains_word w vs
 
 -- the word among words in byte order, once
-abbrev pub same_words : List Bytes → List Bytes → Bool
-same_words [] [] = true
-same_words [] (v ∷ vs) = false
-same_words (w ∷ ws) [] = false
-same_words (w ∷ ws) (v ∷ vs) = same_bytes w v && same_words ws vs
-
 abbrev pub with_word : Bytes → List Bytes → List Bytes
 with_word w [] = w ∷ []
 with_word w (v ∷ vs) = cond (same_bytes w v) (v ∷ vs) (cond (bytes_below w v) (w ∷ v ∷ vs) (v ∷ with_word w vs))

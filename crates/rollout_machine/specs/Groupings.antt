@@ -12,12 +12,8 @@ abbrev pub percentages : List GroupDefinition → List ℕ
 percentages ds = map (λ (d : GroupDefinition). d.percentage) ds
 
 -- the last position of group i of m members: of so many even groups, or as the definitions say
-abbrev pub last_defined : List GroupDefinition → ℕ → ℕ → ℕ → ℕ
-last_defined [] count m i = last_position m count i
-last_defined (d ∷ ds) count m i = split_last m (percentages (d ∷ ds)) i
-
 abbrev pub last_by : Grouping → ℕ → ℕ → ℕ
-last_by g m i = last_defined g.definitions g.count m i
+last_by g m i = elim g.definitions [ [] ↦ last_position m g.count i | d ∷ ds ↦ split_last m (percentages (d ∷ ds)) i ]
 
 abbrev pub bounds_by : Grouping → ℕ → ℕ → Bounds
 bounds_by g m i = record { first = last_by g m (i - 1) + 1; last = last_by g m i }
@@ -27,12 +23,8 @@ abbrev pub cut_by : Grouping → ℕ → List Bounds
 cut_by g m = each_from (bounds_by g m) 1 g.count
 
 -- some group would be empty
-abbrev pub some_empty : List GroupDefinition → ℕ → ℕ → Bool
-some_empty [] count m = nat_lt m count
-some_empty (d ∷ ds) count m = is_some (first_empty m (percentages (d ∷ ds)))
-
 abbrev pub leaves_empty : Grouping → ℕ → Bool
-leaves_empty g m = some_empty g.definitions g.count m
+leaves_empty g m = elim g.definitions [ [] ↦ nat_lt m g.count | d ∷ ds ↦ is_some (first_empty m (percentages (d ∷ ds))) ]
 
 -- Where no group would be empty, the groups follow one another from the first member to the last.
 abbrev pub GroupingCovers : Type 0

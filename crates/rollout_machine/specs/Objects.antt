@@ -1,21 +1,18 @@
 -- The objects that replies show, found in the records.
-use Rattle.std.specs.Prelude.{ℕ, suc, ◌-◌, Bool, cond, nat_eq, List, [], ◌∷◌, ◌++◌, length, take, drop, Option, Some, None}
+use Rattle.std.specs.Prelude.{ℕ, suc, ◌-◌, Bool, cond, nat_eq, List, [], ◌∷◌, ◌++◌, map, length, take, drop, Option, Some, None}
+use Rattle.std.specs.Option.{option_map_or}
 use Rattle.rollout_machine.specs.ByteStrings.{item_numbered}
 use Rattle.rollout_machine.specs.Commands.{Bytes, ModuleLabel, SetLabel}
+use Rattle.rollout_machine.specs.Groups.{size_of_bounds}
 use Rattle.rollout_machine.specs.Records.{ArtifactRecord, GroupRecord, RolloutRecord, ActionRecord, Records}
 use Rattle.rollout_machine.specs.Replies.{Module, Artifact, DistributionSet, ShownTarget, ShownRollout, ShownGroup, ShownAction, ShownEntry, Chunk}
 use Rattle.rollout_machine.specs.Replies.{Deployment, PageOf, Report}
 use Rattle.rollout_machine.specs.Reports.{Reported}
 use Rattle.rollout_machine.specs.Requests.{Page}
 use Rattle.rollout_machine.specs.Rollouts.{rule_at}
-use Rattle.rollout_machine.specs.StateWords.{action_word, group_number_of, group_word, is_for, member_at, rollout_word, size_of_group, target_word}
+use Rattle.rollout_machine.specs.StateWords.{action_word, group_number_of, group_word, is_for, member_at, rollout_word, target_word}
 use Rattle.rollout_machine.specs.Targets.{Target}
 use Rattle.rollout_machine.specs.Verdicts.{is_named_by_set}
-
--- f of each item with its number, the first of which is k
-abbrev pub numbered : {X : Type 0} → {Y : Type 0} → (ℕ → X → Y) → ℕ → List X → List Y
-numbered f k [] = []
-numbered f k (x ∷ xs) = f k x ∷ numbered f (suc k) xs
 
 abbrev pub page_of : {X : Type 0} → Page → List X → PageOf X
 page_of page xs = record { content = take page.limit (drop page.offset xs); total = length xs }
@@ -24,9 +21,6 @@ page_of page xs = record { content = take page.limit (drop page.offset xs); tota
 
 abbrev pub module_shown : Records → ℕ → ModuleLabel → Module
 module_shown rs k label = record { number = k; locked = is_named_by_set rs.sets k; label = label }
-
-abbrev pub modules_shown : Records → List Module
-modules_shown rs = numbered (module_shown rs) 1 rs.modules
 
 abbrev pub artifact_shown : ℕ → ArtifactRecord → Artifact
 artifact_shown k a = record { number = k; filename = a.filename; size = a.size; digest = a.digest }
@@ -44,10 +38,6 @@ set_shown k label = record { number = k; label = label }
 abbrev pub target_shown : Records → Target → ShownTarget
 target_shown rs t = record { id = t.id; name = t.name; tags = t.tags; attributes = t.attributes; word = target_word rs t.id }
 
-abbrev pub targets_shown : Records → List Target → List ShownTarget
-targets_shown rs [] = []
-targets_shown rs (t ∷ ts) = target_shown rs t ∷ targets_shown rs ts
-
 -- ---- rollouts and groups
 
 abbrev pub rollout_shown : RolloutRecord → ShownRollout
@@ -61,14 +51,10 @@ rollout_shown x = record {
   targets = length x.members;
 }
 
-abbrev pub rollouts_shown : List RolloutRecord → List ShownRollout
-rollouts_shown [] = []
-rollouts_shown (x ∷ xs) = rollout_shown x ∷ rollouts_shown xs
-
 abbrev pub group_shown : RolloutRecord → GroupRecord → ShownGroup
 group_shown x g = record {
   number = g.number;
-  size = size_of_group g;
+  size = size_of_bounds g.bounds;
   ok = g.ok;
   bad = g.bad;
   gone = g.gone;
@@ -77,28 +63,20 @@ group_shown x g = record {
   word = group_word x g;
 }
 
-abbrev pub groups_shown : RolloutRecord → List GroupRecord → List ShownGroup
-groups_shown x [] = []
-groups_shown x (g ∷ gs) = group_shown x g ∷ groups_shown x gs
-
 abbrev pub report_of : RolloutRecord → Report
-report_of x = record { rollout = rollout_shown x; groups = groups_shown x x.groups }
+report_of x = record { rollout = rollout_shown x; groups = map (group_shown x) x.groups }
 
 -- the members of a group, in their order
 abbrev pub members_in : GroupRecord → List Bytes → List Bytes
-members_in g members = take (size_of_group g) (drop (g.bounds.first - 1) members)
+members_in g members = take (size_of_bounds g.bounds) (drop (g.bounds.first - 1) members)
 
 -- ---- actions and their histories
-
-abbrev pub group_of_action : Option RolloutRecord → ActionRecord → ℕ
-group_of_action None a = 0
-group_of_action (Some x) a = group_number_of x a
 
 abbrev pub action_shown : Records → ℕ → ActionRecord → ShownAction
 action_shown rs k a = record {
   number = k;
   rollout = a.rollout;
-  group = group_of_action (item_numbered rs.rollouts a.rollout) a;
+  group = option_map_or (λ x. group_number_of x a) (item_numbered rs.rollouts a.rollout) 0;
   target = member_at (item_numbered rs.rollouts a.rollout) a.position;
   word = action_word rs a;
 }
@@ -110,9 +88,6 @@ actions_where p rs k (a ∷ as') = let rest = actions_where p rs (suc k) as' in 
 
 abbrev pub actions_of_target : Records → Bytes → List ShownAction
 actions_of_target rs t = actions_where (is_for rs t) rs 1 rs.actions
-
-abbrev pub actions_of_rollout : Records → ℕ → List ShownAction
-actions_of_rollout rs r = actions_where (λ (a : ActionRecord). nat_eq a.rollout r) rs 1 rs.actions
 
 abbrev pub entry_shown : ℕ → Reported → ShownEntry
 entry_shown k reported = record { number = k; reported = reported }
@@ -140,6 +115,3 @@ modules_of_rollout rs (Some x) = modules_of_set (item_numbered rs.sets x.plan.se
 abbrev pub modules_of_action : Records → Option ActionRecord → List ℕ
 modules_of_action rs None = []
 modules_of_action rs (Some a) = modules_of_rollout rs (item_numbered rs.rollouts a.rollout)
-
-abbrev pub deployment_shown : Records → Bytes → ℕ → Deployment
-deployment_shown rs t k = record { target = t; action = k; chunks = chunks_of rs (modules_of_action rs (item_numbered rs.actions k)) }

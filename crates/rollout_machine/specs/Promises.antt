@@ -5,7 +5,7 @@ use Rattle.std.specs.Option.{option_map}
 use Rattle.rollout_machine.specs.Actions.{ActionPlace, action_of, action_place, outcome}
 use Rattle.rollout_machine.specs.Effects.{IsInGroup}
 use Rattle.rollout_machine.specs.RecordSteps.{action_after}
-use Rattle.rollout_machine.specs.Verdicts.{is_note, notes_of}
+use Rattle.rollout_machine.specs.Verdicts.{notes_of, says_note}
 use Rattle.rollout_machine.specs.Answers.{answer, artifact_named}
 use Rattle.rollout_machine.specs.ByteStrings.{item_numbered}
 use Rattle.rollout_machine.specs.CommandList.{CommandList, ◌▸◌}
@@ -18,7 +18,7 @@ use Rattle.rollout_machine.specs.Offers.{Offer, offer}
 use Rattle.rollout_machine.specs.Progress.{is_group_started, is_paused}
 use Rattle.rollout_machine.specs.Records.{ActionRecord, ArtifactRecord, records, rollout_in}
 use Rattle.rollout_machine.specs.Replies.{Reply, PollShown, DeploymentShown, CancelShown, ContentsShown}
-use Rattle.rollout_machine.specs.Reports.{Reported, entries_in, reported_by}
+use Rattle.rollout_machine.specs.Reports.{HistoryEntry, Reported, entries_in, reported_by}
 use Rattle.rollout_machine.specs.Requests.{Query, Download, Ask, Asks}
 use Rattle.rollout_machine.specs.Rollouts.{Rollout, rollout_at}
 use Rattle.rollout_machine.specs.Validity.{IsValid}
@@ -125,7 +125,8 @@ OffersFollow = (h : CommandList) (c : Command) (t : Bytes) (k : ℕ) (p : Action
 -- an action has as many notes more as its feedback adds, and a closed one none
 abbrev pub NotesGrow : Type 0
 NotesGrow = (c : Command) (a : ActionRecord)
-    → notes_of (action_after c a) ≡ notes_of a + cond (is_none a.outcome) (length (filter is_note (entries_in (reported_by c)))) 0
+    → notes_of (action_after c a)
+    ≡ notes_of a + cond (is_none a.outcome) (length (filter (λ (entry : HistoryEntry). says_note entry.said) (entries_in (reported_by c)))) 0
 
 -- ---- numbers of feedback
 

@@ -1,7 +1,7 @@
 -- The records after one accepted command, from the records before it.
 use Rattle.std.specs.Prelude.{ℕ, suc, ◌+◌, Bool, true, false, ◌&&◌, ◌||◌, cond, nat_eq, nat_lt, List, [], ◌∷◌, ◌++◌, map, length, Option, Some, None, is_none}
 use Rattle.std.specs.Option.{option_or, unwrap_or}
-use Rattle.rollout_machine.specs.Actions.{ActionPlace, places_from, outcome_given, cancel_standing_said}
+use Rattle.rollout_machine.specs.Actions.{ActionPlace, outcome_given, cancel_standing_said}
 use Rattle.rollout_machine.specs.ByteStrings.{item_numbered, same_bytes, bytes_below, with_word, without_word, sorted_words}
 use Rattle.rollout_machine.specs.Commands.{Bytes, TargetRow, RolloutPlan, Command, AddModule, AddArtifact, AddSet, PutTargets, Tag, Untag}
 use Rattle.rollout_machine.specs.Commands.{PutAttributes, CreateRollout, Approve, Deny, Start, Pause, Resume, TriggerNext, Cancel, Feedback}
@@ -9,11 +9,13 @@ use Rattle.rollout_machine.specs.Commands.{CancelFeedback, Outcome, Good, Bad, G
 use Rattle.rollout_machine.specs.Counts.{is_outcome}
 use Rattle.rollout_machine.specs.Effects.{feedback_pauses, good_after, starts_next, next_if}
 use Rattle.target_filter.specs.Profile.{filter_of}
+use Rattle.rollout_machine.specs.Groupings.{bounds_by}
+use Rattle.rollout_machine.specs.Groups.{size_of_bounds}
 use Rattle.rollout_machine.specs.Ranges.{each_from}
 use Rattle.rollout_machine.specs.Records.{artifact_from, Waiting, Denied, Given, GroupRecord, RolloutRecord, ActionRecord, Records}
 use Rattle.rollout_machine.specs.Reports.{is_again, reported_by}
-use Rattle.rollout_machine.specs.Rollouts.{rule_at, bounds_at, chosen}
-use Rattle.rollout_machine.specs.StateWords.{size_of_group, group_numbered, group_number_of}
+use Rattle.rollout_machine.specs.Rollouts.{rule_at, chosen}
+use Rattle.rollout_machine.specs.StateWords.{group_numbered, group_number_of}
 use Rattle.rollout_machine.specs.Targets.{Target, with_attributes}
 use Rattle.rollout_machine.specs.declared.view.GroupView.{GroupView}
 use Rattle.rollout_machine.specs.declared.view.RolloutView.{RolloutView}
@@ -42,7 +44,7 @@ change_rollout r f xs = map (λ (x : RolloutRecord). cond (nat_eq x.number r) (f
 
 -- a group before anything happens in it
 abbrev pub new_group : RolloutPlan → ℕ → ℕ → GroupRecord
-new_group plan m i = record { number = i; bounds = bounds_at plan m i; started = false; ok = 0; bad = 0; gone = 0 }
+new_group plan m i = record { number = i; bounds = bounds_by plan.groups m i; started = false; ok = 0; bad = 0; gone = 0 }
 
 abbrev pub new_rollout : Bool → ℕ → RolloutPlan → List Bytes → RolloutRecord
 new_rollout approval r plan members = record {
@@ -79,7 +81,7 @@ abbrev pub view_from_group : RolloutPlan → ℕ → Option GroupRecord → Grou
 view_from_group plan i None = record { number = i; size = 0; ok = 0; bad = 0; success = (rule_at plan i).success; error = (rule_at plan i).error }
 view_from_group plan i (Some g) = record {
   number = i;
-  size = size_of_group g;
+  size = size_of_bounds g.bounds;
   ok = g.ok;
   bad = g.bad;
   success = (rule_at plan i).success;
@@ -116,7 +118,7 @@ new_action p = record { rollout = p.rollout; position = p.position; canceling = 
 
 abbrev pub new_actions : Option RolloutRecord → List ActionRecord
 new_actions None = []
-new_actions (Some x) = map new_action (places_from x.number 1 (length x.members))
+new_actions (Some x) = map new_action (each_from (λ j. record { rollout = x.number; position = j }) 1 (length x.members))
 
 -- ---- actions
 

@@ -1,5 +1,5 @@
 -- The records of a desk as one finite value, and what they are at a command list.
-use Rattle.std.specs.Prelude.{ℕ, suc, Bool, true, false, cond, nat_eq, List, [], ◌∷◌, ◌++◌, map, length, Option, Some, None}
+use Rattle.std.specs.Prelude.{ℕ, Bool, true, false, cond, nat_eq, List, [], ◌∷◌, ◌++◌, map, length, Option, Some, None}
 use Rattle.std.specs.Option.{option_or}
 use Rattle.rollout_machine.specs.Actions.{ActionPlace, action_places, outcome, is_canceling, history}
 use Rattle.rollout_machine.specs.CommandList.{CommandList, Make, ◌▸◌}
@@ -8,7 +8,7 @@ use Rattle.rollout_machine.specs.Commands.{Good, Bad, Gone}
 use Rattle.rollout_machine.specs.Counts.{tally}
 use Rattle.rollout_machine.specs.Digests.{digest_of}
 use Rattle.rollout_machine.specs.Progress.{is_paused, is_group_started, is_rollout_started}
-use Rattle.rollout_machine.specs.Ranges.{each_from}
+use Rattle.rollout_machine.specs.Ranges.{each_from, numbered}
 use Rattle.rollout_machine.specs.Rollouts.{Rollout, rollouts, bounds_in}
 use Rattle.rollout_machine.specs.Targets.{Target, targets}
 pub use Rattle.rollout_machine.specs.declared.records.GroupRecord.{GroupRecord}
@@ -40,13 +40,9 @@ abbrev pub needs_approval : CommandList → Bool
 needs_approval (Make approval) = approval
 needs_approval (h ▸ c) = needs_approval h
 
-abbrev pub added_modules : Command → List ModuleLabel
-added_modules (AddModule label) = label ∷ []
-added_modules _ = []
-
 abbrev pub modules : CommandList → List ModuleLabel
 modules (Make approval) = []
-modules (h ▸ c) = modules h ++ added_modules c
+modules (h ▸ c) = modules h ++ elim c [ AddModule label ↦ label ∷ [] | _ ↦ [] ]
 
 abbrev pub artifact_from : Upload → ArtifactRecord
 artifact_from u = record {
@@ -57,38 +53,25 @@ artifact_from u = record {
   contents = u.contents;
 }
 
-abbrev pub added_artifacts : Command → List ArtifactRecord
-added_artifacts (AddArtifact upload) = artifact_from upload ∷ []
-added_artifacts _ = []
-
 abbrev pub artifacts : CommandList → List ArtifactRecord
 artifacts (Make approval) = []
-artifacts (h ▸ c) = artifacts h ++ added_artifacts c
-
-abbrev pub added_sets : Command → List SetLabel
-added_sets (AddSet label) = label ∷ []
-added_sets _ = []
+artifacts (h ▸ c) = artifacts h ++ elim c [ AddArtifact upload ↦ artifact_from upload ∷ [] | _ ↦ [] ]
 
 abbrev pub sets : CommandList → List SetLabel
 sets (Make approval) = []
-sets (h ▸ c) = sets h ++ added_sets c
+sets (h ▸ c) = sets h ++ elim c [ AddSet label ↦ label ∷ [] | _ ↦ [] ]
 
--- approved or denied by the command
-abbrev pub decision_on : ℕ → Command → Option Bool
-decision_on r (Approve q) = cond (nat_eq q r) (Some true) None
-decision_on r (Deny q) = cond (nat_eq q r) (Some false) None
-decision_on r _ = None
-
+-- approved or denied
 abbrev pub decided : ℕ → CommandList → Option Bool
 decided r (Make approval) = None
-decided r (h ▸ c) = option_or (decided r h) (decision_on r c)
-
-abbrev pub approval_by : Option Bool → Approval
-approval_by None = Waiting
-approval_by (Some b) = cond b Given Denied
+decided r (h ▸ c) = option_or (decided r h) (elim c [
+  | Approve q ↦ cond (nat_eq q r) (Some true) None
+  | Deny q ↦ cond (nat_eq q r) (Some false) None
+  | _ ↦ None
+])
 
 abbrev pub approval_of : ℕ → CommandList → Approval
-approval_of r h = cond (needs_approval h) (approval_by (decided r h)) Given
+approval_of r h = cond (needs_approval h) (elim (decided r h) [ None ↦ Waiting | Some b ↦ cond b Given Denied ]) Given
 
 abbrev pub group_in : Rollout → ℕ → CommandList → ℕ → GroupRecord
 group_in x r h i = record {
@@ -111,10 +94,6 @@ rollout_in h r x = record {
   groups = each_from (group_in x r h) 1 x.plan.groups.count;
 }
 
-abbrev pub rollouts_in : CommandList → ℕ → List Rollout → List RolloutRecord
-rollouts_in h r [] = []
-rollouts_in h r (x ∷ xs) = rollout_in h r x ∷ rollouts_in h (suc r) xs
-
 abbrev pub action_in : CommandList → ActionPlace → ActionRecord
 action_in h p = record {
   rollout = p.rollout;
@@ -131,6 +110,6 @@ records h = record {
   artifacts = artifacts h;
   sets = sets h;
   targets = targets h;
-  rollouts = rollouts_in h 1 (rollouts h);
+  rollouts = numbered (rollout_in h) 1 (rollouts h);
   actions = map (action_in h) (action_places h);
 }

@@ -2,14 +2,15 @@
 use Rattle.rollout_machine.specs.Actions.{ActionPlace, action_place, history, outcome}
 use Rattle.rollout_machine.specs.Answers.{answer}
 use Rattle.rollout_machine.specs.Requests.{Asked}
-use Rattle.rollout_machine.specs.ByteStrings.{same_bytes, same_words}
+use Rattle.rollout_machine.specs.ByteStrings.{same_bytes}
 use Rattle.rollout_machine.specs.CommandList.{◌▸◌, Make, CommandList}
 use Rattle.rollout_machine.specs.Commands.{PutTargets, TargetRow, Feedback, CancelFeedback, Command}
 use Rattle.rollout_machine.specs.Records.{records}
 use Rattle.rollout_machine.specs.Reports.{is_again}
 use Rattle.rollout_machine.specs.Validity.{IsValid}
 use Rattle.rollout_machine.specs.Verdicts.{verdict}
-use Rattle.std.specs.Prelude.{◌≡◌, Bool, true, false, ◌&&◌, ◌||◌, cond, List, [], ◌∷◌, Option, Some, None, is_some}
+use Rattle.std.specs.Cmp.Lexicographic.{pointwise}
+use Rattle.std.specs.Prelude.{◌≡◌, Bool, false, ◌&&◌, ◌||◌, cond, Option, Some, None, is_some}
 
 -- the action has an outcome, or has heard this by its number
 abbrev pub is_had : CommandList → Command → Option ActionPlace → Bool
@@ -23,29 +24,12 @@ is_repeat h (CancelFeedback feedback) = is_had h (CancelFeedback feedback) (acti
 is_repeat h _ = false
 
 abbrev pub same_row : TargetRow → TargetRow → Bool
-same_row a b = same_bytes a.id b.id && (same_bytes a.name b.name && (same_bytes a.digest b.digest && same_words a.tags b.tags))
-
-abbrev pub same_rows : List TargetRow → List TargetRow → Bool
-same_rows [] [] = true
-same_rows [] (b ∷ bs) = false
-same_rows (a ∷ as') [] = false
-same_rows (a ∷ as') (b ∷ bs) = same_row a b && same_rows as' bs
-
-abbrev pub imported : Command → Option (List TargetRow)
-imported (PutTargets rows) = Some rows
-imported _ = None
-
-abbrev pub imported_last : CommandList → Option (List TargetRow)
-imported_last (Make approval) = None
-imported_last (h ▸ c) = imported c
-
-abbrev pub both_same : Option (List TargetRow) → Option (List TargetRow) → Bool
-both_same (Some rows) (Some more) = same_rows rows more
-both_same _ _ = false
+same_row a b = same_bytes a.id b.id && (same_bytes a.name b.name && (same_bytes a.digest b.digest && pointwise same_bytes a.tags b.tags))
 
 -- a PutTargets that directly follows an equal one
 abbrev pub is_doubled : CommandList → Command → Bool
-is_doubled h c = both_same (imported_last h) (imported c)
+is_doubled (h ▸ PutTargets rows) (PutTargets more) = pointwise same_row rows more
+is_doubled _ _ = false
 
 -- the list without its repeats and doubled imports
 abbrev pub without_repeats : CommandList → CommandList

@@ -1,8 +1,9 @@
 -- What devices report of an action, and the numbers by which they tell what they send again.
 use Rattle.std.specs.Prelude.{ℕ, Bool, true, false, ◌&&◌, cond, nat_eq, nat_lt, List, [], ◌∷◌, map, Option, Some, None}
-use Rattle.std.specs.Option.{option_or}
-use Rattle.rollout_machine.specs.ByteStrings.{same_words}
-use Rattle.rollout_machine.specs.Commands.{NoteWord, Proceeding, Scheduled, Resumed, DeploymentWord, CancelWord, Succeeded, Failed, Rejected, Noted}
+use Rattle.std.specs.Cmp.Lexicographic.{pointwise}
+use Rattle.std.specs.Option.{option_map, option_map_or, option_or}
+use Rattle.rollout_machine.specs.ByteStrings.{same_bytes}
+use Rattle.rollout_machine.specs.Commands.{NoteWord, Proceeding, Scheduled, Resumed, Succeeded, Failed, Rejected, Noted}
 use Rattle.rollout_machine.specs.Commands.{ClosedCancel, CanceledCancel, RejectedCancel, NotedCancel, Command, Feedback, CancelFeedback, DeviceFeedback}
 -- an entry of an action's history, with its number or without, and what a device says of an action
 pub use Rattle.rollout_model.specs.declared.feedback.HistoryEntry.{HistoryEntry}
@@ -14,11 +15,8 @@ pub use Rattle.rollout_machine.specs.declared.standing.Standing.{Standing}
 pub use Rattle.rollout_machine.specs.declared.standing.Standing.TheVariants.{Fresh, Again, Old}
 
 -- what is kept of feedback
-abbrev pub entry_of : {W : Type 0} → (W → Said) → DeviceFeedback W → HistoryEntry
-entry_of said feedback = record { said = said feedback.word; details = feedback.details }
-
 abbrev pub reported : {W : Type 0} → (W → Said) → DeviceFeedback W → Reported
-reported said feedback = record { entry = entry_of said feedback; number = feedback.number }
+reported said feedback = record { entry = record { said = said feedback.word; details = feedback.details }; number = feedback.number }
 
 abbrev pub reported_by : Command → List Reported
 reported_by (Feedback feedback) = reported OfDeployment feedback ∷ []
@@ -36,27 +34,19 @@ same_note Scheduled Scheduled = true
 same_note Resumed Resumed = true
 same_note _ _ = false
 
-abbrev pub same_deployment : DeploymentWord → DeploymentWord → Bool
-same_deployment Succeeded Succeeded = true
-same_deployment Failed Failed = true
-same_deployment Rejected Rejected = true
-same_deployment (Noted a) (Noted b) = same_note a b
-same_deployment _ _ = false
-
-abbrev pub same_cancel : CancelWord → CancelWord → Bool
-same_cancel ClosedCancel ClosedCancel = true
-same_cancel CanceledCancel CanceledCancel = true
-same_cancel RejectedCancel RejectedCancel = true
-same_cancel (NotedCancel a) (NotedCancel b) = same_note a b
-same_cancel _ _ = false
-
 abbrev pub same_said : Said → Said → Bool
-same_said (OfDeployment a) (OfDeployment b) = same_deployment a b
-same_said (OfCancel a) (OfCancel b) = same_cancel a b
+same_said (OfDeployment Succeeded) (OfDeployment Succeeded) = true
+same_said (OfDeployment Failed) (OfDeployment Failed) = true
+same_said (OfDeployment Rejected) (OfDeployment Rejected) = true
+same_said (OfDeployment (Noted a)) (OfDeployment (Noted b)) = same_note a b
+same_said (OfCancel ClosedCancel) (OfCancel ClosedCancel) = true
+same_said (OfCancel CanceledCancel) (OfCancel CanceledCancel) = true
+same_said (OfCancel RejectedCancel) (OfCancel RejectedCancel) = true
+same_said (OfCancel (NotedCancel a)) (OfCancel (NotedCancel b)) = same_note a b
 same_said _ _ = false
 
 abbrev pub same_entry : HistoryEntry → HistoryEntry → Bool
-same_entry a b = same_said a.said b.said && same_words a.details b.details
+same_entry a b = same_said a.said b.said && pointwise same_bytes a.details b.details
 
 -- ---- numbers
 
@@ -65,26 +55,18 @@ pub record Numbered : Type 0 where
   pub entry : HistoryEntry
   pub number : ℕ
 
-abbrev pub numbered_if : HistoryEntry → Option ℕ → Option Numbered
-numbered_if entry None = None
-numbered_if entry (Some n) = Some (record { entry = entry; number = n })
-
 -- the last that bears one. Since numbers rise, its number is the greatest
 abbrev pub bearing : List Reported → Option Numbered
 bearing [] = None
-bearing (it ∷ more) = option_or (bearing more) (numbered_if it.entry it.number)
+bearing (it ∷ more) = option_or (bearing more) (option_map (λ n. record { entry = it.entry; number = n }) it.number)
 
 -- a report of this number, where this one is the last that bears one
 abbrev pub against : Option Numbered → ℕ → HistoryEntry → Standing
 against None n entry = Fresh
 against (Some last) n entry = cond (nat_lt last.number n) Fresh (cond (nat_eq last.number n && same_entry last.entry entry) Again Old)
 
-abbrev pub standing_by : List Reported → HistoryEntry → Option ℕ → Standing
-standing_by reports entry None = Fresh
-standing_by reports entry (Some n) = against (bearing reports) n entry
-
 abbrev pub standing_of : List Reported → Reported → Standing
-standing_of reports new = standing_by reports new.entry new.number
+standing_of reports new = option_map_or (λ n. against (bearing reports) n new.entry) new.number Fresh
 
 abbrev pub says_again : Standing → Bool
 says_again Again = true

@@ -1,5 +1,5 @@
 -- What can be asked of a desk: its commands, its queries, and what a message asks.
-use Rattle.std.specs.Prelude.{ℕ, List, [], ◌∷◌, Option, Some, None}
+use Rattle.std.specs.Prelude.{ℕ, Option}
 use Rattle.rollout_machine.specs.Commands.{Bytes, Command, Credential}
 pub use Rattle.rollout_model.specs.declared.page.Page.{Page}
 use Rattle.rollout_model.specs.declared.refusal.Refusal.{Refusal}
@@ -39,8 +39,3 @@ pub data Request : Type 0 where
 pub data Asked : Type 0 where
   Rejected : Refusal → Asked
   Asks : Request → Asked
-
--- the commands that an answer appends
-abbrev pub one : Option Command → List Command
-one None = []
-one (Some c) = c ∷ []

@@ -20,11 +20,9 @@ abbrev pub chosen : Option Tree → List Target → List Bytes
 chosen None ts = []
 chosen (Some f) ts = map (λ (t : Target). t.id) (filter (matches f) ts)
 
-abbrev pub members_of : Bytes → CommandList → List Bytes
-members_of text h = chosen (filter_of text) (targets h)
-
+-- its members are the targets that match just before it
 abbrev pub created : CommandList → Command → List Rollout
-created h (CreateRollout plan) = record { plan = plan; members = members_of plan.filter_text h } ∷ []
+created h (CreateRollout plan) = record { plan = plan; members = chosen (filter_of plan.filter_text) (targets h) } ∷ []
 created h _ = []
 
 -- the rollouts in the order of their numbers
@@ -38,11 +36,8 @@ rollout_at h r = item_numbered (rollouts h) r
 abbrev pub size_of : Rollout → ℕ
 size_of x = length x.members
 
-abbrev pub bounds_at : RolloutPlan → ℕ → ℕ → Bounds
-bounds_at plan m i = bounds_by plan.groups m i
-
 abbrev pub bounds_in : Rollout → ℕ → Bounds
-bounds_in x i = bounds_at x.plan (size_of x) i
+bounds_in x i = bounds_by x.plan.groups (size_of x) i
 
 abbrev pub first_of : Rollout → ℕ → ℕ
 first_of x i = (bounds_in x i).first

@@ -1,11 +1,11 @@
 -- What a desk stands for, and what a crash may leave of it.
-use Rattle.std.specs.Prelude.{◌≡◌, ◌≢◌, ◌⊎◌, Bool, true, false, Option}
+use Rattle.std.specs.Prelude.{◌≡◌, ◌≢◌, ◌⊎◌, Bool, true, false, Option, option_to_list}
 use Rattle.rollout_machine.specs.Answers.{MayAnswer}
 use Rattle.rollout_machine.specs.CommandList.{CommandList, followed_by}
 use Rattle.rollout_machine.specs.Commands.{Command}
 use Rattle.rollout_model.specs.declared.refusal.Refusal.TheVariants.{StoreFailed}
 use Rattle.rollout_machine.specs.Replies.{Reply, Refused}
-use Rattle.rollout_machine.specs.Requests.{Asked, one}
+use Rattle.rollout_machine.specs.Requests.{Asked}
 use Rattle.rollout_machine.specs.Validity.{IsValid}
 
 -- what a contract sees of a desk whose store keeps files of this type
@@ -30,12 +30,12 @@ pub record StandsFor {File : Type 0} (s : DeskState File) (h : CommandList) : Ty
 -- stopped; a crash leaves the list, or the list with what was accepted
 pub record IsInDoubt {File : Type 0} (s : DeskState File) (h : CommandList) (accepted : Option Command) : Type 0 where
   pub stopped : s.is_stopped ≡ true
-  pub crash : (file : File) → s.may_leave file → s.holds file h ⊎ s.holds file (followed_by h (one accepted))
+  pub crash : (file : File) → s.may_leave file → s.holds file h ⊎ s.holds file (followed_by h (option_to_list accepted))
 
 -- what the desk is after a reply
 pub record Becomes {File : Type 0} (s : DeskState File) (h : CommandList) (reply : Reply) (accepted : Option Command) : Type 0 where
   pub in_doubt : reply ≡ Refused StoreFailed → IsInDoubt s h accepted
-  pub stands : reply ≢ Refused StoreFailed → StandsFor s (followed_by h (one accepted))
+  pub stands : reply ≢ Refused StoreFailed → StandsFor s (followed_by h (option_to_list accepted))
 
 -- one request at the list h: the machine's answer, and a desk that becomes what the answer says
 pub record AppliesAt {File : Type 0} (h : CommandList) (new : DeskState File) (asked : Asked) (reply : Reply) : Type 0 where

@@ -1,11 +1,12 @@
 -- The state words of rollouts, groups, actions and targets, read from the records.
-use Rattle.std.specs.Prelude.{ℕ, ◌+◌, Bool, false, ◌&&◌, not, cond, nat_eq, List, [], ◌∷◌, filter, Option, Some, None, is_none}
-use Rattle.std.specs.Option.{unwrap_or}
+use Rattle.std.specs.Prelude.{ℕ, ◌+◌, Bool, ◌&&◌, not, cond, nat_eq, List, [], ◌∷◌, filter, fold, Option, Some, None, is_none}
+use Rattle.std.specs.Option.{option_map_or, unwrap_or}
 use Rattle.std.specs.List.{list_any, list_all, find}
 use Rattle.rollout_machine.specs.ByteStrings.{item_numbered, same_bytes}
 use Rattle.rollout_machine.specs.Commands.{Bytes, Good, Bad, Gone}
 use Rattle.rollout_machine.specs.Counts.{reaches}
 use Rattle.rollout_machine.specs.Groups.{size_of_bounds, holds_position}
+use Rattle.rollout_machine.specs.Ranges.{is_some_and}
 use Rattle.rollout_machine.specs.Records.{Approval, Waiting, Denied, Given, GroupRecord, RolloutRecord, ActionRecord, Records}
 use Rattle.rollout_machine.specs.Rollouts.{rule_at}
 pub use Rattle.rollout_model.specs.declared.rollout_word.RolloutWord.{RolloutWord}
@@ -22,11 +23,8 @@ pub use Rattle.rollout_model.specs.declared.action_word.ActionWord.TheVariants.{
 pub use Rattle.rollout_model.specs.declared.target_word.TargetWord.{TargetWord}
 pub use Rattle.rollout_model.specs.declared.target_word.TargetWord.TheVariants.{Unknown, Pending, InSync, Error as InError}
 
-abbrev pub size_of_group : GroupRecord → ℕ
-size_of_group g = size_of_bounds g.bounds
-
 abbrev pub all_final : GroupRecord → Bool
-all_final g = nat_eq (g.ok + g.bad + g.gone) (size_of_group g)
+all_final g = nat_eq (g.ok + g.bad + g.gone) (size_of_bounds g.bounds)
 
 abbrev pub is_finished : RolloutRecord → Bool
 is_finished x = list_all (λ (g : GroupRecord). g.started && all_final g) x.groups
@@ -43,32 +41,23 @@ rollout_word x = word_from x.approval x.started (is_finished x) x.paused
 abbrev pub group_word : RolloutRecord → GroupRecord → GroupWord
 group_word x g =
     cond (not x.started) ReadyGroup (cond (not g.started) ScheduledGroup
-    (cond (all_final g) FinishedGroup (cond (reaches g.bad (size_of_group g) (rule_at x.plan g.number).error) ErrorGroup RunningGroup)))
+    (cond (all_final g) FinishedGroup (cond (reaches g.bad (size_of_bounds g.bounds) (rule_at x.plan g.number).error) ErrorGroup RunningGroup)))
 
 abbrev pub group_numbered : ℕ → List GroupRecord → Option GroupRecord
 group_numbered i gs = find (λ (g : GroupRecord). nat_eq g.number i) gs
-
-abbrev pub group_is_started : Option GroupRecord → Bool
-group_is_started None = false
-group_is_started (Some g) = g.started
 
 -- the group of an action in its rollout: the one whose bounds hold the member's position
 abbrev pub group_holding : ℕ → List GroupRecord → Option GroupRecord
 group_holding j gs = find (λ (g : GroupRecord). holds_position j g.bounds) gs
 
-abbrev pub number_of_group : Option GroupRecord → ℕ
-number_of_group None = 0
-number_of_group (Some g) = g.number
-
 abbrev pub group_number_of : RolloutRecord → ActionRecord → ℕ
-group_number_of x a = number_of_group (group_holding a.position x.groups)
+group_number_of x a = option_map_or (λ (g : GroupRecord). g.number) (group_holding a.position x.groups) 0
 
-abbrev pub is_started_in : Option RolloutRecord → ActionRecord → Bool
-is_started_in None a = false
-is_started_in (Some x) a = group_is_started (group_holding a.position x.groups)
-
+-- the group of an action is started
 abbrev pub has_started : Records → ActionRecord → Bool
-has_started rs a = is_started_in (item_numbered rs.rollouts a.rollout) a
+has_started rs a =
+    is_some_and (λ (x : RolloutRecord). is_some_and (λ (g : GroupRecord). g.started) (group_holding a.position x.groups))
+    (item_numbered rs.rollouts a.rollout)
 
 abbrev pub action_word : Records → ActionRecord → ActionWord
 action_word rs a = elim a.outcome [
@@ -86,10 +75,9 @@ is_for rs t a = same_bytes (member_at (item_numbered rs.rollouts a.rollout) a.po
 abbrev pub started_actions_of : Records → Bytes → List ActionRecord
 started_actions_of rs t = filter (λ a. is_for rs t a && has_started rs a) rs.actions
 
-abbrev pub word_by_last : TargetWord → List ActionRecord → TargetWord
-word_by_last w [] = w
-word_by_last w (a ∷ as') = word_by_last (elim a.outcome [ None ↦ Pending | Some o ↦ elim o [ Good ↦ InSync | Bad ↦ InError | Gone ↦ Unknown ] ]) as'
-
+-- pending while one of these is open, and else as the last of them ended
 abbrev pub target_word : Records → Bytes → TargetWord
 target_word rs t =
-    cond (list_any (λ (a : ActionRecord). is_none a.outcome) (started_actions_of rs t)) Pending (word_by_last Unknown (started_actions_of rs t))
+    let started = started_actions_of rs t in
+    cond (list_any (λ (a : ActionRecord). is_none a.outcome) started) Pending
+    (fold (λ word a. elim a.outcome [ None ↦ Pending | Some o ↦ elim o [ Good ↦ InSync | Bad ↦ InError | Gone ↦ Unknown ] ]) Unknown started)

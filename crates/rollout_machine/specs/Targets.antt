@@ -1,6 +1,6 @@
 -- Targets: who is there, with which name, token, tags and attributes. Everything is found in the command list.
 use Rattle.std.specs.Prelude.{Bool, true, false, ◌&&◌, cond, List, [], ◌∷◌, map, Option, Some, None}
-use Rattle.std.specs.Option.{option_or, unwrap_or}
+use Rattle.std.specs.Option.{option_map_or, option_or, unwrap_or}
 use Rattle.rollout_machine.specs.ByteStrings.{same_bytes, bytes_below, contains_word, with_word, without_word, with_words, sorted_words}
 use Rattle.rollout_machine.specs.CommandList.{CommandList, Make, ◌▸◌}
 use Rattle.rollout_machine.specs.Commands.{Bytes, TargetRow, Attribute, Command, PutTargets, Tag, Untag, PutAttributes}
@@ -40,20 +40,15 @@ abbrev pub has_tag : Bytes → Bytes → CommandList → Bool
 has_tag t x (Make approval) = false
 has_tag t x (h ▸ c) = unwrap_or (tag_standing_said t x c) (has_tag t x h)
 
-abbrev pub tags_by_row : Option TargetRow → List Bytes → List Bytes
-tags_by_row None ws = ws
-tags_by_row (Some row) ws = sorted_words row.tags
-
-abbrev pub tags_after : Bytes → Command → List Bytes → List Bytes
-tags_after t (PutTargets rows) ws = tags_by_row (last_row_for t rows) ws
-tags_after t (Tag u y) ws = cond (same_bytes t u) (with_word y ws) ws
-tags_after t (Untag u y) ws = cond (same_bytes t u) (without_word y ws) ws
-tags_after t _ ws = ws
-
 -- the target's tags in byte order: the words of which `has_tag` holds
 abbrev pub tags_in : Bytes → CommandList → List Bytes
 tags_in t (Make approval) = []
-tags_in t (h ▸ c) = tags_after t c (tags_in t h)
+tags_in t (h ▸ c) = let tags = tags_in t h in elim c [
+  | PutTargets rows ↦ option_map_or (λ (row : TargetRow). sorted_words row.tags) (last_row_for t rows) tags
+  | Tag u y ↦ cond (same_bytes t u) (with_word y tags) tags
+  | Untag u y ↦ cond (same_bytes t u) (without_word y tags) tags
+  | _ ↦ tags
+]
 
 -- the attributes with one more value, by key in byte order
 abbrev pub with_attribute : Attribute → List Attribute → List Attribute
@@ -64,13 +59,12 @@ abbrev pub with_attributes : List Attribute → List Attribute → List Attribut
 with_attributes [] bs = bs
 with_attributes (a ∷ more) bs = with_attributes more (with_attribute a bs)
 
-abbrev pub attributes_after : Bytes → Command → List Attribute → List Attribute
-attributes_after t (PutAttributes device attributes) bs = cond (same_bytes t device.id) (with_attributes attributes bs) bs
-attributes_after t _ bs = bs
-
 abbrev pub attributes_in : Bytes → CommandList → List Attribute
 attributes_in t (Make approval) = []
-attributes_in t (h ▸ c) = attributes_after t c (attributes_in t h)
+attributes_in t (h ▸ c) = let before = attributes_in t h in elim c [
+  | PutAttributes device attributes ↦ cond (same_bytes t device.id) (with_attributes attributes before) before
+  | _ ↦ before
+]
 
 -- ---- a target as one record
 pub record Target : Type 0 where

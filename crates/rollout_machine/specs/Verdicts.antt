@@ -13,6 +13,7 @@ use Rattle.rollout_machine.specs.Digests.{digest_of}
 use Rattle.rollout_machine.specs.Groupings.{leaves_empty}
 use Rattle.target_filter.specs.Profile.{filter_of}
 use Rattle.rollout_model.specs.Limits.{limits}
+use Rattle.rollout_machine.specs.Ranges.{is_some_and}
 use Rattle.rollout_machine.specs.Records.{ArtifactRecord, GroupRecord, RolloutRecord, ActionRecord, Records, records}
 use Rattle.rollout_model.specs.declared.refusal.Refusal.{Refusal}
 use Rattle.rollout_model.specs.declared.refusal.Refusal.TheVariants.{Unauthorized, NotFound, Exists, Locked, WrongState, ClosedAction, OldNumber, Quota}
@@ -20,7 +21,8 @@ use Rattle.rollout_model.specs.declared.refusal.Refusal.TheVariants.{BadFilter, 
 use Rattle.rollout_machine.specs.Reports.{HistoryEntry, Reported, Said, OfDeployment, OfCancel, entries_in, reported, says_again, says_old}
 use Rattle.rollout_machine.specs.Reports.{standing_of}
 use Rattle.rollout_machine.specs.Rollouts.{chosen}
-use Rattle.rollout_machine.specs.StateWords.{rollout_word, has_started, is_for, WaitingForApproval, ReadyRollout, PausedRollout, RunningRollout, RolloutWord}
+use Rattle.rollout_machine.specs.StateWords.{rollout_word, has_started, is_for, ApprovalDenied, WaitingForApproval, ReadyRollout, FinishedRollout}
+use Rattle.rollout_machine.specs.StateWords.{PausedRollout, RunningRollout, RolloutWord}
 use Rattle.rollout_machine.specs.Targets.{Target}
 
 -- a row of the table: tests in their order, and what each refuses with
@@ -42,56 +44,32 @@ abbrev pub target_keys : Option Target → List Bytes
 target_keys None = []
 target_keys (Some x) = map (λ (a : Attribute). a.key) x.attributes
 
-abbrev pub word_is : (RolloutWord → Bool) → Option RolloutRecord → Bool
-word_is p None = false
-word_is p (Some x) = p (rollout_word x)
+-- two words are the same
+abbrev pub same_word : RolloutWord → RolloutWord → Bool
+same_word ApprovalDenied ApprovalDenied = true
+same_word WaitingForApproval WaitingForApproval = true
+same_word ReadyRollout ReadyRollout = true
+same_word FinishedRollout FinishedRollout = true
+same_word PausedRollout PausedRollout = true
+same_word RunningRollout RunningRollout = true
+same_word _ _ = false
 
-abbrev pub is_waiting : RolloutWord → Bool
-is_waiting WaitingForApproval = true
-is_waiting _ = false
-
-abbrev pub is_ready : RolloutWord → Bool
-is_ready ReadyRollout = true
-is_ready _ = false
-
-abbrev pub is_running : RolloutWord → Bool
-is_running RunningRollout = true
-is_running _ = false
-
-abbrev pub is_at_pause : RolloutWord → Bool
-is_at_pause PausedRollout = true
-is_at_pause _ = false
-
-abbrev pub has_next : Option RolloutRecord → Bool
-has_next None = false
-has_next (Some x) = list_any (λ (g : GroupRecord). not g.started) x.groups
-
--- a command on a rollout: it is there, and the test holds
-abbrev pub rollout_word_row : Records → ℕ → (RolloutWord → Bool) → List (Bool × Refusal)
-rollout_word_row rs r p = (is_none (item_numbered rs.rollouts r), NotFound) ∷ (not (word_is p (item_numbered rs.rollouts r)), WrongState) ∷ []
+-- a command on a rollout: it is there, and in the state of this word
+abbrev pub rollout_word_row : Records → ℕ → RolloutWord → List (Bool × Refusal)
+rollout_word_row rs r word =
+    (is_none (item_numbered rs.rollouts r), NotFound)
+    ∷ (not (is_some_and (λ (x : RolloutRecord). same_word word (rollout_word x)) (item_numbered rs.rollouts r)), WrongState) ∷ []
 
 abbrev pub says_note : Said → Bool
 says_note (OfDeployment word) = is_none (outcome_of_deployment word)
 says_note (OfCancel (NotedCancel p)) = true
 says_note (OfCancel _) = false
 
-abbrev pub is_note : HistoryEntry → Bool
-is_note entry = says_note entry.said
-
 abbrev pub notes_of : ActionRecord → ℕ
-notes_of a = length (filter is_note (entries_in a.history))
-
-abbrev pub same_outcome : Option Outcome → Option Outcome → Bool
-same_outcome (Some o) p = is_outcome o p
-same_outcome None p = false
+notes_of a = length (filter (λ (entry : HistoryEntry). says_note entry.said) (entries_in a.history))
 
 abbrev pub is_device_action : Records → Bytes → Option ActionRecord → Bool
-is_device_action rs t None = false
-is_device_action rs t (Some a) = is_for rs t a && has_started rs a
-
-abbrev pub on_action : (ActionRecord → Bool) → Option ActionRecord → Bool
-on_action p None = false
-on_action p (Some a) = p a
+is_device_action rs t found = is_some_and (λ a. is_for rs t a && has_started rs a) found
 
 -- a report that an open action has heard of a later one, or another one of its number
 abbrev pub is_old : Reported → ActionRecord → Bool
@@ -103,15 +81,7 @@ is_new new a = is_none a.outcome && not (says_again (standing_of a.history new))
 
 -- a note for which there is no room
 abbrev pub is_beyond : Reported → ActionRecord → Bool
-is_beyond new a = is_note new.entry && nat_le limits.notes (notes_of a)
-
-abbrev pub plan_row : Records → RolloutPlan → List (Bool × Refusal)
-plan_row rs plan =
-    (is_none (filter_of plan.filter_text), BadFilter)
-    ∷ (is_none (item_numbered rs.sets plan.set_number), NotFound)
-    ∷ (list_any (λ (x : RolloutRecord). same_bytes x.plan.name plan.name) rs.rollouts, Exists)
-    ∷ (leaves_empty plan.groups (length (chosen (filter_of plan.filter_text) rs.targets)), TooFewTargets)
-    ∷ (nat_le limits.rollouts (length rs.rollouts), Quota) ∷ []
+is_beyond new a = says_note new.entry.said && nat_le limits.notes (notes_of a)
 
 -- a set names the module
 abbrev pub is_named_by_set : List SetLabel → ℕ → Bool
@@ -150,41 +120,49 @@ verdict_row rs (Untag t x) = (is_none (target_of rs t), NotFound) ∷ []
 verdict_row rs (PutAttributes device attributes) =
     (not (is_known rs device), Unauthorized)
     ∷ (nat_lt limits.attributes (length (with_words (map (λ (a : Attribute). a.key) attributes) (target_keys (target_of rs device.id)))), Quota) ∷ []
-verdict_row rs (CreateRollout plan) = plan_row rs plan
-verdict_row rs (Approve r) = rollout_word_row rs r is_waiting
-verdict_row rs (Deny r) = rollout_word_row rs r is_waiting
-verdict_row rs (Start r) = rollout_word_row rs r is_ready
-verdict_row rs (Pause r) = rollout_word_row rs r is_running
-verdict_row rs (Resume r) = rollout_word_row rs r is_at_pause
-verdict_row rs (TriggerNext r) = rollout_word_row rs r is_running ++ (not (has_next (item_numbered rs.rollouts r)), WrongState) ∷ []
+verdict_row rs (CreateRollout plan) =
+    (is_none (filter_of plan.filter_text), BadFilter)
+    ∷ (is_none (item_numbered rs.sets plan.set_number), NotFound)
+    ∷ (list_any (λ (x : RolloutRecord). same_bytes x.plan.name plan.name) rs.rollouts, Exists)
+    ∷ (leaves_empty plan.groups (length (chosen (filter_of plan.filter_text) rs.targets)), TooFewTargets)
+    ∷ (nat_le limits.rollouts (length rs.rollouts), Quota) ∷ []
+verdict_row rs (Approve r) = rollout_word_row rs r WaitingForApproval
+verdict_row rs (Deny r) = rollout_word_row rs r WaitingForApproval
+verdict_row rs (Start r) = rollout_word_row rs r ReadyRollout
+verdict_row rs (Pause r) = rollout_word_row rs r RunningRollout
+verdict_row rs (Resume r) = rollout_word_row rs r PausedRollout
+verdict_row rs (TriggerNext r) =
+    rollout_word_row rs r RunningRollout
+    ++ (not (is_some_and (λ (x : RolloutRecord). list_any (λ (g : GroupRecord). not g.started) x.groups) (item_numbered rs.rollouts r)), WrongState) ∷ []
 verdict_row rs (Cancel t k force) =
-    (is_none (target_of rs t) || not (on_action (is_for rs t) (item_numbered rs.actions k)), NotFound)
-    ∷ (on_action (λ a. is_some a.outcome) (item_numbered rs.actions k), ClosedAction)
-    ∷ (on_action (λ a. not (has_started rs a) || (a.canceling && not force)) (item_numbered rs.actions k), WrongState) ∷ []
+    (is_none (target_of rs t) || not (is_some_and (is_for rs t) (item_numbered rs.actions k)), NotFound)
+    ∷ (is_some_and (λ a. is_some a.outcome) (item_numbered rs.actions k), ClosedAction)
+    ∷ (is_some_and (λ a. not (has_started rs a) || (a.canceling && not force)) (item_numbered rs.actions k), WrongState) ∷ []
 verdict_row rs (Feedback feedback) =
     (not (is_known rs feedback.credential), Unauthorized)
     ∷ (not (is_device_action rs feedback.credential.id (item_numbered rs.actions feedback.action)), NotFound)
     ∷ (
-      on_action (λ a. is_some a.outcome && not (same_outcome (outcome_of_deployment feedback.word) a.outcome))
+      is_some_and (λ a. is_some a.outcome && not (is_some_and (λ o. is_outcome o a.outcome) (outcome_of_deployment feedback.word)))
           (item_numbered rs.actions feedback.action),
       ClosedAction,
     )
-    ∷ (on_action (is_old (reported OfDeployment feedback)) (item_numbered rs.actions feedback.action), OldNumber)
+    ∷ (is_some_and (is_old (reported OfDeployment feedback)) (item_numbered rs.actions feedback.action), OldNumber)
     ∷ (
-      on_action (λ a. is_new (reported OfDeployment feedback) a && is_beyond (reported OfDeployment feedback) a) (item_numbered rs.actions feedback.action),
+      is_some_and (λ a. is_new (reported OfDeployment feedback) a && is_beyond (reported OfDeployment feedback) a) (item_numbered rs.actions feedback.action),
       Quota,
     ) ∷ []
 verdict_row rs (CancelFeedback feedback) =
     (not (is_known rs feedback.credential), Unauthorized)
     ∷ (not (is_device_action rs feedback.credential.id (item_numbered rs.actions feedback.action)), NotFound)
     ∷ (
-      on_action (λ a. is_some a.outcome && not (same_outcome (outcome_of_cancel feedback.word) a.outcome)) (item_numbered rs.actions feedback.action),
+      is_some_and (λ a. is_some a.outcome && not (is_some_and (λ o. is_outcome o a.outcome) (outcome_of_cancel feedback.word)))
+          (item_numbered rs.actions feedback.action),
       ClosedAction,
     )
-    ∷ (on_action (is_old (reported OfCancel feedback)) (item_numbered rs.actions feedback.action), OldNumber)
-    ∷ (on_action (λ a. is_new (reported OfCancel feedback) a && not a.canceling) (item_numbered rs.actions feedback.action), WrongState)
+    ∷ (is_some_and (is_old (reported OfCancel feedback)) (item_numbered rs.actions feedback.action), OldNumber)
+    ∷ (is_some_and (λ a. is_new (reported OfCancel feedback) a && not a.canceling) (item_numbered rs.actions feedback.action), WrongState)
     ∷ (
-      on_action (λ a. is_new (reported OfCancel feedback) a && is_beyond (reported OfCancel feedback) a) (item_numbered rs.actions feedback.action),
+      is_some_and (λ a. is_new (reported OfCancel feedback) a && is_beyond (reported OfCancel feedback) a) (item_numbered rs.actions feedback.action),
       Quota,
     ) ∷ []
 

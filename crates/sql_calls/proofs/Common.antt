@@ -66,7 +66,7 @@ pub use Rattle.sql_calls.proofs.Apart.{HasNoForeignKey}
 pub use Rattle.sql_calls.specs.Calls.{AsksFew, AsksText, RunsText, TakesFirst, TakesTo, few_of}
 pub use Rattle.sql_calls.proofs.Columns.{HaveKeysApart, Rise}
 pub use Rattle.sql_calls.specs.Keyed.{AreIn, IsHeldBy, rows_from}
-pub use Rattle.sql_calls.specs.Means.{Known, Knows, KnowsWrite, Means, writes_rows}
+pub use Rattle.sql_calls.specs.private.Means.{Known, Knows, KnowsWrite, Means, writes_rows}
 pub use Rattle.sql_calls.specs.Standing.{Begins, Commits, Finds, FrameTo, GivesUp, HoldIn, IsAtRest, IsInDoubt, IsInside, IsSpoiled, Keeps, Makes, Opens, Rests}
 pub use Rattle.sql_calls.specs.Standing.{Sees, Shows, Spoiled}
 pub use Rattle.sql_calls.specs.declared.fault.Fault.{Fault}

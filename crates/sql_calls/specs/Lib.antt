@@ -1,7 +1,7 @@
 pub mod Tables
 pub mod Keyed
 pub mod Faults
-pub mod Means
 pub mod Calls
 pub mod Standing
 pub mod KeyIndexes
+pub mod private

@@ -13,7 +13,8 @@ pub use Rattle.rollout_machine.specs.Answers.{MayAnswer}
 pub use Rattle.rollout_machine.specs.CommandList.{CommandList, Make, followed_by, ◌▸◌}
 pub use Rattle.rollout_machine.specs.Commands.{Bytes, Command}
 pub use Rattle.rollout_machine.specs.Replies.{ContentsShown, Refused, Reply}
-pub use Rattle.rollout_machine.specs.Requests.{Asked, Asks, Rejected, one}
+pub use Rattle.rollout_machine.specs.Requests.{Asked, Asks, Rejected}
+pub use Rattle.std.specs.Option.{option_to_list as one}
 pub use Rattle.rollout_machine.specs.Standing.{Applies, AppliesAt, DeskState, IsInDoubt, StandsFor, StaysStopped}
 pub use Rattle.request_handler.specs.Downloads.{HandsPieces, Sends, sent}
 pub use Rattle.http_wire.specs.Inbox.{message_of}
@@ -22,8 +23,9 @@ pub use Rattle.http_wire.specs.Streams.{Begins}
 pub use Rattle.http_wire.specs.Watched.{has_failed, inner_of}
 pub use Rattle.http_wire.specs.declared.stream.End.{End}
 pub use Rattle.http_wire.specs.declared.stream.End.TheVariants.{Cut, Fault, Input}
-pub use Rattle.mgmt_api.specs.Table.{manage_route}
-pub use Rattle.stream_server.specs.Headline.{AnswersEnd, CutsDownload, Exits, Headline, HoldsFirstPart, IsRefusedAsStopped, IsTold, StoppedThroughout, Stops}
+pub use Rattle.mgmt_api.specs.Routes.{manage_table}
+pub use Rattle.request_target.specs.Routes.{route_of}
+pub use Rattle.stream_server.specs.Headline.{AnswersEnd, CutsDownload, Exits, Headline, HoldsFirstPart, IsRefusedAsStopped, StoppedThroughout, Stops}
 pub use Rattle.stream_server.specs.Headline.{Transcript}
 pub use Rattle.stream_server.specs.Interfaces.{end_text, is_for_devices, reading, reply_text}
 pub use Rattle.stream_server.specs.Listening.{Keeps, KeepsOn, StopsAtStore}

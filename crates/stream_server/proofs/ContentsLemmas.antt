@@ -11,7 +11,7 @@ use Rattle.request_handler.specs.declared.download.Download.{Download}
 use Rattle.request_handler.specs.declared.answered.Answered.TheVariants.{Contents}
 use Rattle.http_wire.specs.Replies.{reason}
 use Rattle.stream_server.specs.declared.served.ServeFault.TheVariants as serve_fault
-use Rattle.stream_server.specs.Contents.{contents_head, download_fault, SendsContents, WritesOut}
+use Rattle.stream_server.specs.private.Contents.{contents_head, download_fault, SendsContents, WritesOut}
 use Rattle.stream_server.specs.Interfaces.{reply_text}
 use Rattle.stream_server.specs.Run.{ByMachine}
 use Rattle.stream_server.proofs.AskLemmas.{by_machine}

@@ -3,14 +3,15 @@ use Rattle.stream_server.proofs.Common.{◌≡◌, ◌≢◌, ℕ, ◌-◌, ◌^
 use Rattle.stream_server.proofs.Common.{Err, inl, refl, sym, ap, ◌∙◌, subst, append-nil, arith, length-append, Appends, Consumes, IsAtEnd, Appends-nil}
 use Rattle.stream_server.proofs.Common.{Consumes-nil, Consumes-trans, End, Input, Fault, WireMessage, IsUndecided, IsFault, Begins}
 use Rattle.stream_server.proofs.Common.{CommandList, Refused, DeskState, ServeFault, Served, end_text, Exchange, messages_of, texts_of, GoesOn, AnswersEnd}
-use Rattle.stream_server.proofs.Common.{Exits, IsTold, Conduct, Answers, SendsPart}
+use Rattle.std.specs.Prelude.{IsSomeAnd}
+use Rattle.stream_server.proofs.Common.{Exits, Conduct, Answers, SendsPart}
 use Rattle.std.proofs.lemmas.List.{length-map}
 use Rattle.http_wire.specs.declared.fault.WireFault.{WireFault}
 use Rattle.stream_server.specs.declared.served.ServeFault.TheVariants as serve_fault
 use Rattle.http_wire.specs.Faults.{refusal_of}
 use Rattle.http_wire.specs.Replies.{refusal_text}
 use Rattle.stream_server.specs.Headline.{Ended}
-use Rattle.stream_server.specs.Reading.{ReadsOn, GrowsTo}
+use Rattle.stream_server.specs.private.Reading.{ReadsOn, GrowsTo}
 use Rattle.stream_server.proofs.HeadlineLemmas.{AtExit, whole_exit, broken_exit}
 
 -- a read that gave nothing
@@ -117,7 +118,8 @@ module _ (File : Type 0) (C : Conduct File) (old new : DeskState File) (stream :
 
 -- ---- the loop's counts
 
-pub too_many : (stream unread : Option (List ℕ)) (fed : List ℕ) → Consumes stream unread fed → 2 ^ 64 - 1 ≤ length fed → IsTold stream → ⊥
+pub too_many : (stream unread : Option (List ℕ)) (fed : List ℕ) → Consumes stream unread fed → 2 ^ 64 - 1 ≤ length fed
+    → IsSomeAnd stream (λ bytes. length bytes < 2 ^ 64 - 1) → ⊥
 too_many stream unread fed reads many told = grind (arith, length-append)
 
 pub read_end : (a b : Option (List ℕ)) (held held_new : List ℕ) (failed more : Bool) → more ≡ false → ReadsOn a b held held_new failed (Ok more)

@@ -238,25 +238,24 @@ module _ (File : Type 0) (C : Conduct File) (h : CommandList) (s : DeskState Fil
   broken_says rest ms sent serve_fault.Store b =
       elim b.cut.1 [
         | inl store ↦
-            let all : reply_text b.last.message b.last.reply ≡ b.part = b.whole ∙ ap (λ (t : List ℕ). b.part ++ t) store.1 ∙ append-nil b.part in inl (record {
-              all_written = b.texts ∙ ap (λ (t : List ℕ). texts_of b.before ++ t) (sym (append-nil (reply_text b.last.message b.last.reply) ∙ all))
-                  ∙ sym (texts_append b.before (b.last ∷ []));
-              before = b.before;
-              last = b.last;
-              place = refl;
-              reply = store.0;
-            })
+            let all : reply_text b.last.message b.last.reply ≡ b.part = b.whole ∙ ap (λ (t : List ℕ). b.part ++ t) store.1 ∙ append-nil b.part in
+            inl (
+              one b.last.accepted,
+              record { before = b.before; last = b.last; place = refl; reply = store.0; command = refl },
+              b.texts ∙ ap (λ (t : List ℕ). texts_of b.before ++ t) (sym (append-nil (reply_text b.last.message b.last.reply) ∙ all))
+                  ∙ sym (texts_append b.before (b.last ∷ [])),
+            )
         | inr begun ↦ inr (cuts ms sent serve_fault.Store b begun)
       ]
   broken_says rest ms sent serve_fault.Memory b =
       elim b.cut.1 [
-        | inl none ↦ inr (inl (record {
-          before = b.before;
-          last = b.last;
-          place = refl;
-          all_written = b.texts ∙ ap (λ (t : List ℕ). texts_of b.before ++ t) none
-              ∙ append-nil (texts_of b.before);
-        }))
+        | inl none ↦ inr (inl (
+          b.before,
+          b.last,
+          refl,
+          b.texts ∙ ap (λ (t : List ℕ). texts_of b.before ++ t) none
+              ∙ append-nil (texts_of b.before),
+        ))
         | inr begun ↦ inr (inr (cuts ms sent serve_fault.Memory b begun))
       ]
 

@@ -1,20 +1,20 @@
 -- The first word of a path says which interface's router can know it.
 use native.Mathlib.Omega.{arith}
 use Rattle.stream_server.proofs.Common.{◌≡◌, ℕ, List, [], ◌∷◌, Bool, true, false, not, ◌&&◌, nat_lt, length, cond, bytes_eq, codes, Option, Some, None, refl}
-use Rattle.stream_server.proofs.Common.{sym, ap, ◌∙◌, subst, slice_get, false≢true, WireMessage, manage_route}
+use Rattle.stream_server.proofs.Common.{sym, ap, ◌∙◌, subst, slice_get, false≢true, WireMessage}
+use Rattle.std.specs.Cmp.Lexicographic.{pointwise}
 use Rattle.std.specs.List.{list_all}
 use Rattle.std.specs.Option.{is_some}
 use Rattle.std.specs.Prelude.{if◌then◌else◌}
 use Rattle.std.specs.Str.{is_utf8}
 use Rattle.std.proofs.lemmas.Slice.Eq.{bytes_eq-Decides}
-use Rattle.request_target.specs.Routes.{segments, is_parameter, stands_for, fits, route_in}
+use Rattle.request_target.specs.Routes.{segments, is_parameter, stands_for, route_in, route_of}
 use Rattle.request_target.proofs.Longest.{both}
 use Rattle.http_wire.specs.Targets.{path_of}
 use Rattle.ddi_api.specs.declared.call.DeviceCall.{DeviceCall}
 use Rattle.ddi_api.specs.Reading.{device_reading}
 use Rattle.mgmt_api.specs.Reading.{manage_reading}
 use Rattle.ddi_api.specs.Routes.{device_table}
-use Rattle.ddi_api.specs.Table.{device_call}
 use Rattle.mgmt_api.specs.Routes.{manage_table}
 
 -- what stands behind the first slash is such a word
@@ -37,7 +37,7 @@ module _ (P : List ℕ → Bool) where
       by true never stands = absurd (false≢true never)
       by false is same = subst (λ (word : List ℕ). P word ≡ true) ((bytes_eq-Decides part segment).0 same) is
 
-  fits_open : (parts path : List (List ℕ)) → opens_by (is_written P) parts ≡ true → fits parts path ≡ true → opens_by P path ≡ true
+  fits_open : (parts path : List (List ℕ)) → opens_by (is_written P) parts ≡ true → pointwise stands_for parts path ≡ true → opens_by P path ≡ true
   fits_open parts path written fit = grind (arith, stood_for)
 
   found_open : {T : Type 0} (table : List (List ℕ × T)) (path : List ℕ) (x : T) → all_open_by P table ≡ true → route_in table path ≡ Some x
@@ -45,9 +45,10 @@ module _ (P : List ℕ → Bool) where
   found_open [] path x all found = absurd cc
   found_open (r ∷ table) path x all found =
       let of = both (opens_by (is_written P) (segments r.0)) (all_open_by P table) all in
-      by (fits (segments r.0) (segments path)) refl found of.0 (found_open table path x of.1)
+      by (pointwise stands_for (segments r.0) (segments path)) refl found of.0 (found_open table path x of.1)
     where
-      by : (v : Bool) → fits (segments r.0) (segments path) ≡ v → cond v (Some r.1) (route_in table path) ≡ Some x → opens_by (is_written P) (segments r.0)
+      by : (v : Bool) → pointwise stands_for (segments r.0) (segments path) ≡ v → cond v (Some r.1) (route_in table path) ≡ Some x
+          → opens_by (is_written P) (segments r.0)
           ≡ true
           → (route_in table path ≡ Some x → opens_by P (segments path) ≡ true) → opens_by P (segments path) ≡ true
       by true fit found written later = fits_open (segments r.0) (segments path) written fit
@@ -84,23 +85,26 @@ opened_by_none : (path : List (List ℕ)) → None ≡ slice_get path 1 → open
 opened_by_none path at = grind arith
 
 module _ (path word : List ℕ) (at : Some word ≡ slice_get (segments path) 1) where
-  pub not_of_management : bytes_eq word (codes "DEFAULT") ≡ true → manage_route path ≡ None
+  pub not_of_management : bytes_eq word (codes "DEFAULT") ≡ true → route_of manage_table path ≡ None
+  unfolding route_of
   not_of_management is = leads_nowhere is_other manage_table path (is_utf8 path) others_open
       (no_other (segments path) (sym (opened_by (segments path) word at) ∙ is))
 
-  pub not_of_devices : bytes_eq word (codes "DEFAULT") ≡ false → device_call path ≡ None
+  pub not_of_devices : bytes_eq word (codes "DEFAULT") ≡ false → route_of device_table path ≡ None
+  unfolding route_of
   not_of_devices is = leads_nowhere is_devices device_table path (is_utf8 path) devices_open (sym (opened_by (segments path) word at) ∙ is)
 
-pub without_word : (path : List ℕ) → None ≡ slice_get (segments path) 1 → device_call path ≡ None
+pub without_word : (path : List ℕ) → None ≡ slice_get (segments path) 1 → route_of device_table path ≡ None
+unfolding route_of
 without_word path at = leads_nowhere is_devices device_table path (is_utf8 path) devices_open (opened_by_none (segments path) at)
 
 -- ---- what is read
 
 -- a path that is none of management's is read as a device's: both readings reject what has no route
-pub as_of_device : (m : WireMessage) → manage_route (path_of m.target) ≡ None
-    → (if is_some (device_call (path_of m.target)) then device_reading m else manage_reading m) ≡ device_reading m
-as_of_device m none = by (device_call (path_of m.target)) refl
+pub as_of_device : (m : WireMessage) → route_of manage_table (path_of m.target) ≡ None
+    → (if is_some (route_of device_table (path_of m.target)) then device_reading m else manage_reading m) ≡ device_reading m
+as_of_device m none = by (route_of device_table (path_of m.target)) refl
   where
-    by : (o : Option DeviceCall) → device_call (path_of m.target) ≡ o → (if is_some o then device_reading m else manage_reading m) ≡ device_reading m
+    by : (o : Option DeviceCall) → route_of device_table (path_of m.target) ≡ o → (if is_some o then device_reading m else manage_reading m) ≡ device_reading m
     by (Some call) is = refl
     by None is = rw (none, is) refl

@@ -1,5 +1,5 @@
 -- What `serve` promises at every exit.
-use Rattle.std.specs.Prelude.{All, ◌≡◌, ◌≢◌, ℕ, ◌-◌, ◌^◌, ◌<◌, ◌≤◌, ◌⊎◌, min, Bool, true, false, List, [], ◌∷◌, ◌++◌, length, Option, Some, None}
+use Rattle.std.specs.Prelude.{All, ◌≡◌, ◌≢◌, ℕ, ◌-◌, ◌^◌, ◌<◌, ◌≤◌, ◌⊎◌, min, Bool, true, false, List, [], ◌∷◌, ◌++◌, length, IsSomeAnd, Option, Some, None}
 use Rattle.std.specs.Prelude.{Result, Ok, Err}
 use Rattle.std.specs.Io.KnownBytes.{Appends, Consumes, IsAtEnd}
 use Rattle.http_wire.specs.declared.stream.End.{End}
@@ -12,7 +12,7 @@ use Rattle.rollout_machine.specs.Commands.{Bytes, Command}
 use Rattle.rollout_machine.specs.CommandList.{CommandList, followed_by}
 use Rattle.rollout_machine.specs.Repeats.{IsTraceless}
 use Rattle.rollout_machine.specs.Replies.{Refused, ContentsShown}
-use Rattle.rollout_machine.specs.Requests.{one}
+use Rattle.std.specs.Option.{option_to_list}
 use Rattle.rollout_machine.specs.Standing.{DeskState, StandsFor, StaysStopped}
 use Rattle.stream_server.specs.declared.interface.Interface.{Interface}
 use Rattle.stream_server.specs.declared.served.ServeFault.{ServeFault}
@@ -23,16 +23,12 @@ use Rattle.stream_server.specs.Run.{Exchange, messages_of, accepted_in, texts_of
 
 -- ---- what was read and written
 
--- the reader told its bytes, and they are fewer than 2^64 - 1
-abbrev pub IsTold : Option (List ℕ) → Type 0
-IsTold None = ⊥
-IsTold (Some bytes) = length bytes < 2 ^ 64 - 1
-
--- how the stream ended: with this rest, and with nothing unread unless a fault was answered
+-- how the stream ended: with this rest, and with nothing unread unless a fault was answered; it was cut, if the reader told its
+-- bytes, and they are fewer than 2^64 - 1
 abbrev pub Ended : Option (List ℕ) → Option (List ℕ) → List ℕ → End → Type 0
 Ended stream unread rest (Fault fault) = IsFault rest fault
 Ended stream unread rest Input = EndsAs rest Input × IsAtEnd unread
-Ended stream unread rest Cut = IsTold stream → EndsAs rest Cut × IsAtEnd unread
+Ended stream unread rest Cut = IsSomeAnd stream (λ bytes. length bytes < 2 ^ 64 - 1) → EndsAs rest Cut × IsAtEnd unread
 
 -- every message was answered, and every reply was written whole
 pub record ExitsServed (stream unread : Option (List ℕ)) (run : List Exchange) (written rest : List ℕ) (served : Served) : Type 0 where
@@ -40,21 +36,6 @@ pub record ExitsServed (stream unread : Option (List ℕ)) (run : List Exchange)
   pub goes_on : GoesOn run
   pub answered : served.answered ≡ min (length run) (2 ^ 64 - 1)
   pub ended : Ended stream unread rest served.end
-
--- whole replies were written, the last one of a failed store
-pub record ExitsInDoubt (run : List Exchange) (written : List ℕ) : Type 0 where
-  pub all_written : written ≡ texts_of run
-  pub before : List Exchange
-  pub last : Exchange
-  pub place : run ≡ before ++ last ∷ []
-  pub reply : last.reply ≡ Refused StoreFailed
-
--- all replies but the last were written whole, and nothing of the last
-pub record LacksLast (run : List Exchange) (written : List ℕ) : Type 0 where
-  pub before : List Exchange
-  pub last : Exchange
-  pub place : run ≡ before ++ last ∷ []
-  pub all_written : written ≡ texts_of before
 
 -- all replies but the last were written whole, and a beginning of the last, which is a download's, of at least one byte
 pub record CutsDownload (run : List Exchange) (written : List ℕ) : Type 0 where
@@ -69,14 +50,27 @@ pub record CutsDownload (run : List Exchange) (written : List ℕ) : Type 0 wher
   pub begun : 1 ≤ length part
   pub all_written : written ≡ texts_of before ++ part
 
+-- the run ends in a failed store, whose command is in doubt
+pub record EndsInDoubt (run : List Exchange) (lost : List Command) : Type 0 where
+  pub before : List Exchange
+  pub last : Exchange
+  pub place : run ≡ before ++ last ∷ []
+  pub reply : last.reply ≡ Refused StoreFailed
+  pub command : lost ≡ option_to_list last.accepted
+
 -- what each exit says of the replies and of the stream
 abbrev pub Exits : Option (List ℕ) → Option (List ℕ) → List Exchange → List ℕ → List ℕ → Result Served ServeFault → Type 0
 Exits stream unread run written rest (Ok served) = ExitsServed stream unread run written rest served
 -- all messages that were given are answered
 Exits stream unread run written rest (Err serve_fault.Read) = GoesOn run × (written ≡ texts_of run) × IsUndecided rest
 Exits stream unread run written rest (Err serve_fault.Write) = Unit {0}
-Exits stream unread run written rest (Err serve_fault.Store) = ExitsInDoubt run written ⊎ CutsDownload run written
-Exits stream unread run written rest (Err serve_fault.Memory) = (GoesOn run × (written ≡ texts_of run)) ⊎ (LacksLast run written ⊎ CutsDownload run written)
+-- the last reply is that of a failed store and was written whole, as all before it
+Exits stream unread run written rest (Err serve_fault.Store) =
+    ((lost : List Command) × EndsInDoubt run lost × (written ≡ texts_of run)) ⊎ CutsDownload run written
+-- all replies were written whole, or all but the last and nothing of that
+Exits stream unread run written rest (Err serve_fault.Memory) =
+    (GoesOn run × (written ≡ texts_of run))
+    ⊎ (((before : List Exchange) × (last : Exchange) × (run ≡ before ++ last ∷ []) × (written ≡ texts_of before)) ⊎ CutsDownload run written)
 
 -- an end that was answered is the stream's, and no store failed before it
 abbrev pub AnswersEnd : List Exchange → List ℕ → End → Type 0
@@ -115,14 +109,6 @@ pub record IsAcknowledged (run : List Exchange) (written : List ℕ) (before : L
   pub success : (refusal : Refusal) → x.reply ≢ Refused refusal
   pub begun : length (texts_of before) < length written
 
--- the run ends in a failed store, whose command is in doubt
-pub record EndsInDoubt (run : List Exchange) (lost : List Command) : Type 0 where
-  pub before : List Exchange
-  pub last : Exchange
-  pub place : run ≡ before ++ last ∷ []
-  pub reply : last.reply ≡ Refused StoreFailed
-  pub command : lost ≡ one last.accepted
-
 -- The file holds the list followed by a first part of the accepted commands: all of them, or all but the one in doubt.
 -- Every acknowledged one is in it.
 pub record HoldsFirstPart {File : Type 0} (s : DeskState File) (h : CommandList) (run : List Exchange) (written : List ℕ) (file : File) : Type 0 where
@@ -131,7 +117,7 @@ pub record HoldsFirstPart {File : Type 0} (s : DeskState File) (h : CommandList)
   pub parts : accepted_in run ≡ kept ++ lost
   pub in_doubt : (lost ≡ []) ⊎ EndsInDoubt run lost
   pub acknowledged : (before : List Exchange) (x : Exchange) (behind : List Exchange) → IsAcknowledged run written before x behind
-      → (more : List Command) × (kept ≡ accepted_in before ++ one x.accepted ++ more)
+      → (more : List Command) × (kept ≡ accepted_in before ++ option_to_list x.accepted ++ more)
   pub holds : s.holds file (followed_by h kept)
 
 -- a desk is stopped after a failed store, perhaps after a failed write, and never else

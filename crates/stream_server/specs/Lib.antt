@@ -2,7 +2,6 @@ pub mod Interfaces
 pub mod Run
 pub mod Headline
 pub mod Parts
-pub mod Contents
-pub mod Reading
 pub mod Arrivals
 pub mod Listening
+pub mod private

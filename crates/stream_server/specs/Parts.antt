@@ -9,7 +9,7 @@ use Rattle.rollout_model.specs.declared.refusal.Refusal.TheVariants.{StoreFailed
 use Rattle.rollout_machine.specs.Commands.{Bytes, Command}
 use Rattle.rollout_machine.specs.CommandList.{CommandList, followed_by}
 use Rattle.rollout_machine.specs.Replies.{Reply, Refused, ContentsShown}
-use Rattle.rollout_machine.specs.Requests.{one}
+use Rattle.std.specs.Option.{option_to_list}
 use Rattle.rollout_machine.specs.Standing.{DeskState, StandsFor, IsInDoubt, StaysStopped}
 use Rattle.stream_server.specs.declared.interface.Interface.{Interface}
 use Rattle.stream_server.specs.declared.served.Served.{Served}
@@ -40,7 +40,7 @@ stopped File = record { premise = λ s. Unit {0}; answers = ByStopped; stands = 
 -- what the desk is after a reply
 pub record GoesTo {File : Type 0} (C : Conduct File) (s : DeskState File) (h : CommandList) (reply : Reply) (accepted : Option Command) : Type 0 where
   pub in_doubt : reply ≡ Refused StoreFailed → IsInDoubt s h accepted
-  pub stands : reply ≢ Refused StoreFailed → C.stands s (followed_by h (one accepted))
+  pub stands : reply ≢ Refused StoreFailed → C.stands s (followed_by h (option_to_list accepted))
 
 -- every message was answered, and every reply written whole
 pub record Whole {File : Type 0} (C : Conduct File) (h : CommandList) (s : DeskState File) (ms : List WireMessage) (sent : List ℕ) : Type 0 where
@@ -65,7 +65,7 @@ CutsReply C s h serve_fault.Write reply accepted part left = GoesTo C s h reply 
 CutsReply C s h serve_fault.Store reply accepted part left =
     IsInDoubt s h accepted × (((reply ≡ Refused StoreFailed) × (left ≡ [])) ⊎ BeginsDownload reply accepted part)
 CutsReply C s h serve_fault.Memory reply accepted part left =
-    C.stands s (followed_by h (one accepted)) × ((part ≡ []) ⊎ BeginsDownload reply accepted part)
+    C.stands s (followed_by h (option_to_list accepted)) × ((part ≡ []) ⊎ BeginsDownload reply accepted part)
 
 -- it stopped within the exchange for the last message
 pub record Broken {File : Type 0} (C : Conduct File) (h : CommandList) (s : DeskState File) (ms : List WireMessage) (sent : List ℕ)

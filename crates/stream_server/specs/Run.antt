@@ -8,7 +8,7 @@ use Rattle.rollout_machine.specs.CommandList.{CommandList, followed_by}
 use Rattle.rollout_machine.specs.Replies.{Reply, Refused}
 use Rattle.rollout_machine.specs.Answers.{MayAnswer}
 use Rattle.rollout_machine.specs.Repeats.{without_repeats}
-use Rattle.rollout_machine.specs.Requests.{one}
+use Rattle.std.specs.Option.{option_to_list}
 use Rattle.stream_server.specs.declared.interface.Interface.{Interface}
 use Rattle.stream_server.specs.Interfaces.{reading, reply_text}
 
@@ -22,7 +22,7 @@ abbrev pub messages_of : List Exchange → List WireMessage
 messages_of xs = map (λ x. x.message) xs
 
 abbrev pub accepted_in : List Exchange → List Command
-accepted_in xs = flat_map (λ x. one x.accepted) xs
+accepted_in xs = flat_map (λ x. option_to_list x.accepted) xs
 
 -- the bytes of the replies
 abbrev pub texts_of : List Exchange → List ℕ
@@ -44,7 +44,7 @@ IsRun Answers h [] = Unit {0}
 IsRun Answers h (x ∷ xs) =
     Answers h x.message x.reply x.accepted
     × (x.reply ≡ Refused StoreFailed → xs ≡ [])
-    × IsRun Answers (followed_by h (one x.accepted)) xs
+    × IsRun Answers (followed_by h (option_to_list x.accepted)) xs
 
 -- no store failed
 abbrev pub GoesOn : List Exchange → Type 0

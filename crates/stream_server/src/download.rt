@@ -3,7 +3,7 @@
 ghost use Rattle.std.specs.Prelude.{◌≡◌, ◌≢◌, true, IfOk, IfErr};
 ghost use Rattle.http_wire.specs.Watched.{inner_of, has_failed};
 ghost use Rattle.rollout_model.specs.declared.refusal.Refusal.TheVariants.{StoreFailed};
-ghost use Rattle.stream_server.specs.Contents.{SendsContents, contents_head, download_fault};
+ghost use Rattle.stream_server.specs.private.Contents.{SendsContents, contents_head, download_fault};
 ghost use Rattle.stream_server.specs.Headline.{FailsBy};
 ghost use Rattle.stream_server.specs.Parts.{fault_of};
 

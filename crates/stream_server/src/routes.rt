@@ -5,8 +5,9 @@ ghost use Rattle.http_wire.specs.Inbox.{message_of};
 ghost use Rattle.rollout_model.specs.declared.refusal.Refusal.TheVariants.{NoMemory, StoreFailed};
 ghost use Rattle.rollout_machine.specs.Requests.{Rejected, Asks};
 ghost use Rattle.rollout_machine.specs.Views.{request_of};
-ghost use Rattle.ddi_api.specs.Table.{device_call};
-ghost use Rattle.mgmt_api.specs.Table.{manage_route};
+ghost use Rattle.request_target.specs.Routes.{route_of};
+ghost use Rattle.ddi_api.specs.Routes.{device_table};
+ghost use Rattle.mgmt_api.specs.Routes.{manage_table};
 ghost use Rattle.stream_server.specs.Interfaces.{reading};
 
 use crate::Interface;
@@ -19,8 +20,8 @@ use std::alloc::Global;
 
 /// Whether a path may be a device's: each of theirs begins by one word, and none of management does.
 fn begins_as_devices(path: &[u8]) -> bool
-    ensures devices { result ≡ true → manage_route path.now ≡ None }
-    ensures others { result ≡ false → device_call path.now ≡ None }
+    ensures devices { result ≡ true → route_of manage_table path.now ≡ None }
+    ensures others { result ≡ false → route_of device_table path.now ≡ None }
 {
     match segment_at(path, 1) {
         Some(word) => word == b"DEFAULT".as_slice(),

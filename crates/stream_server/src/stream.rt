@@ -4,7 +4,7 @@ ghost use Rattle.std.specs.Prelude.{◌≡◌, ◌≢◌, ℕ, ◌+◌, ◌++◌
 ghost use Rattle.http_wire.specs.Watched.{inner_of, has_failed};
 ghost use Rattle.stream_server.specs.Headline.{FailsBy};
 ghost use Rattle.stream_server.specs.Parts.{ServesStream};
-ghost use Rattle.stream_server.specs.Reading.{ReadsOn};
+ghost use Rattle.stream_server.specs.private.Reading.{ReadsOn};
 
 use crate::answer::answer_all;
 use crate::reply::write_refusal;

@@ -5,7 +5,7 @@ use Rattle.target_filter.proofs.Common.{list_all, false≢true, is_quotable_byte
 use Rattle.target_filter.proofs.Common.{Bare, Tree, Or, And, Group, Comparison, Level, OrLevel, AndLevel, AtomLevel, is_at}
 use Rattle.target_filter.proofs.Common.{spelling, field_text, Operator, operator_byte, is_field, is_filter_value}
 use Rattle.target_filter.proofs.Common.{is_word_letter, Mode}
-use Rattle.target_filter.specs.Scanner as scan
+use Rattle.target_filter.specs.private.Scanner as scan
 
 -- the part of the level that is open: what stands before the last `,`, and behind it before the last `;`
 pub record Part : Type 0 where

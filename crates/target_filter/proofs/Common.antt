@@ -15,18 +15,19 @@ pub use Rattle.std.specs.Option.{IfSome, IsSomeAnd, option_and_then, option_map,
 pub use Rattle.std.specs.Str.{IsAscii, IsCharBoundary, IsUtf8}
 pub use Rattle.rollout_model.specs.Rules.{is_word_letter}
 pub use Rattle.rollout_model.specs.declared.target.Target.{Target}
-pub use Rattle.target_filter.specs.ByteKinds.{is_byte_of}
+pub use Rattle.target_filter.specs.private.ByteKinds.{is_byte_of}
 pub use Rattle.target_filter.specs.Descent.{and_at, atom_at, attribute_field, bare_value, behind_front, closed, comparison_at, field_of_name, front, more_ands}
 pub use Rattle.target_filter.specs.Descent.{more_ors, operator_at, or_at, quoted_value, value_at}
 pub use Rattle.target_filter.specs.Grammar.{And, AndLevel, AtomLevel, Attribute, Bare, CanContinue, Comparison, Equal, Field, Group, Id, IsFilter, IsInGrammar}
 pub use Rattle.target_filter.specs.Grammar.{IsLongestBeginning, Level, Name, NotEqual, Operator, Or, OrLevel, Quoted, Tag, Tree, Value, allows_and, allows_or}
 pub use Rattle.target_filter.specs.Grammar.{field_text, is_at, is_bare_byte, is_field, is_nonempty, is_quotable_byte, is_filter_value, nesting, operator_byte}
 pub use Rattle.target_filter.specs.Grammar.{spelling, value_text}
-pub use Rattle.target_filter.specs.Greedy.{after, greedy}
+pub use Rattle.target_filter.specs.private.Greedy.{after, greedy}
 pub use Rattle.target_filter.specs.Meaning.{holds}
 pub use Rattle.target_filter.specs.Patterns.{IsJoined, IsJoinedAfterStar, Matches, byte_then, is_empty, matches, pieces, star_takes, with_first_byte}
 pub use Rattle.target_filter.specs.Profile.{IsInProfile, IsProfileFilter, filter_of, is_profile_filter}
-pub use Rattle.target_filter.specs.Scanner.{Ends, Mode, Move, State, StopsBehind, accepts, at_atom_end, at_atom_start, at_operator, mode_of_name, next, run}
-pub use Rattle.target_filter.specs.Scanner.{start, state_after, step}
-pub use Rattle.target_filter.specs.ScannerViews.{state_of}
+pub use Rattle.target_filter.specs.private.Scanner.{Ends, Mode, Move, State, StopsBehind, accepts, at_atom_end, at_atom_start, at_operator, mode_of_name, next}
+pub use Rattle.target_filter.specs.private.Scanner.{run}
+pub use Rattle.target_filter.specs.private.Scanner.{start, state_after, step}
+pub use Rattle.target_filter.specs.private.ScannerViews.{state_of}
 pub use Rattle.target_filter.specs.Views.{tree_of}

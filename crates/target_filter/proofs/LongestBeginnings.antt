@@ -8,7 +8,7 @@ use Rattle.target_filter.proofs.Common.{Field, is_field, field_text, Tree}
 use Rattle.target_filter.proofs.Common.{OrLevel, spelling, nesting, IsFilter, IsInGrammar, CanContinue, is_word_letter, Mode, State}
 use Rattle.target_filter.proofs.Common.{run, step, mode_of_name, start, accepts}
 use Rattle.std.proofs.lemmas.Str.Ascii.{IsAscii-nil, IsAscii-cons}
-use Rattle.target_filter.specs.Scanner as scan
+use Rattle.target_filter.specs.private.Scanner as scan
 use Rattle.target_filter.proofs.ScannedTrees.{both, in_mode, reads, tree_end, tree_ends, closed, lt_true}
 use Rattle.target_filter.proofs.Beginnings.{Begun, all_of}
 use Rattle.target_filter.proofs.ScannerMoves.{accepted, Stands, run_stands, start_stands}

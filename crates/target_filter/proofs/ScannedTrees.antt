@@ -4,7 +4,7 @@ use Rattle.target_filter.proofs.Common.{refl, sym, ◌∙◌, ap, arith, append_
 use Rattle.target_filter.proofs.Common.{is_bare_byte, is_quotable_byte, Field, Id, Name, Tag, Attribute, Value, Bare, Quoted, Tree, Or, And}
 use Rattle.target_filter.proofs.Common.{Group, Comparison, Level, OrLevel, AndLevel, AtomLevel, is_at, allows_or, allows_and, spelling, field_text, value_text}
 use Rattle.target_filter.proofs.Common.{Operator, operator_byte, nesting, is_field, is_filter_value, is_word_letter, Mode, State, run}
-use Rattle.target_filter.specs.Scanner as scan
+use Rattle.target_filter.specs.private.Scanner as scan
 
 pub both : (a b : Bool) → (a && b) ≡ true → (a ≡ true) × (b ≡ true)
 both a b h = grind arith

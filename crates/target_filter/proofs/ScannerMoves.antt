@@ -6,7 +6,7 @@ use Rattle.target_filter.proofs.Common.{is_nonempty, Field, Id, Name, Tag, Attri
 use Rattle.target_filter.proofs.Common.{spelling, field_text, Equal, NotEqual}
 use Rattle.target_filter.proofs.Common.{operator_byte, is_field, IsFilter, is_word_letter, Mode, State, Move, run, next, step}
 use Rattle.target_filter.proofs.Common.{state_after, mode_of_name, at_atom_start, at_operator, at_atom_end}
-use Rattle.target_filter.specs.Scanner as scan
+use Rattle.target_filter.specs.private.Scanner as scan
 use Rattle.target_filter.proofs.ScannedTrees.{both}
 use Rattle.target_filter.proofs.Beginnings.{Part, part_text, PartFits, and_with, and_spelled, and_fits, whole, whole_spelled, whole_fits}
 use Rattle.target_filter.proofs.Beginnings.{outer_text, AllFit, Begun, atom_of, all_of}

@@ -6,7 +6,7 @@ use Rattle.target_filter.proofs.Common.{IsCharBoundary, false≢true, nat_tests,
 use Rattle.target_filter.proofs.Common.{IsCharBoundary-after_ascii, IsUtf8-nil, take-length, take_more, is_bare_byte, is_quotable_byte, Tree, IsFilter}
 use Rattle.target_filter.proofs.Common.{IsInGrammar, IsLongestBeginning, nesting, is_word_letter, Mode, State, Move, run, next, step, state_after}
 use Rattle.target_filter.proofs.Common.{mode_of_name, at_operator, at_atom_end, start, StopsBehind, Ends}
-use Rattle.target_filter.specs.Scanner as scan
+use Rattle.target_filter.specs.private.Scanner as scan
 use Rattle.std.proofs.lemmas.Option.{option_and_then_some}
 use Rattle.target_filter.proofs.Beginnings.{Begun}
 use Rattle.target_filter.proofs.ScannerMoves.{eq_true, by_test, accepted, Stands, run_stands, start_stands}

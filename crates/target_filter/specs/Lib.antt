@@ -6,9 +6,5 @@ pub mod Profile
 pub mod Faults
 pub mod Laws
 pub mod Descent
-pub mod Scanner
-pub mod ScannerViews
-pub mod Greedy
 pub mod Views
-pub mod Gives
-pub mod ByteKinds
+pub mod private

@@ -3,7 +3,7 @@
 ghost use Rattle.std.specs.Prelude.{◌≡◌, ◌≤◌, length, take, drop};
 ghost use Rattle.rollout_model.specs.Rules.{is_word_letter};
 ghost use Rattle.target_filter.specs.Grammar.{is_bare_byte, is_quotable_byte};
-ghost use Rattle.target_filter.specs.ByteKinds.{is_byte_of};
+ghost use Rattle.target_filter.specs.private.ByteKinds.{is_byte_of};
 ghost use Rattle.target_filter.specs.Descent.{front, behind_front};
 
 /// What a field's name or a part of a value is made of.

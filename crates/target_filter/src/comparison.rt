@@ -5,7 +5,7 @@ ghost use Rattle.std.specs.Result.{MatchResult};
 ghost use Rattle.std.specs.Option.{option_map};
 ghost use Rattle.target_filter.specs.Descent as descent;
 ghost use Rattle.target_filter.specs.Views.{field_of, operator_of, value_of};
-ghost use Rattle.target_filter.specs.Gives.{Gives, GivesAs};
+ghost use Rattle.target_filter.specs.private.Gives.{Gives, GivesAs};
 ghost use Rattle.target_filter.specs.declared.comparison.ParseFault.TheVariants.{Memory};
 
 use crate::byte_kind::{ByteKind, split_run};

@@ -6,7 +6,7 @@ ghost use Rattle.std.specs.Option.{option_and_then};
 ghost use Rattle.target_filter.specs.Grammar as grammar;
 ghost use Rattle.target_filter.specs.Descent as descent;
 ghost use Rattle.target_filter.specs.Views.{tree_of};
-ghost use Rattle.target_filter.specs.Gives.{Gives};
+ghost use Rattle.target_filter.specs.private.Gives.{Gives};
 
 use crate::comparison::{ParseFault, comparison_at};
 use crate::tree::Tree;

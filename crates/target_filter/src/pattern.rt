@@ -5,7 +5,7 @@ ghost use Rattle.std.specs.List.{ends_with};
 ghost use Rattle.std.specs.Option.{MatchOption, option_map};
 ghost use Rattle.target_filter.specs.Names.{before_star};
 ghost use Rattle.target_filter.specs.Patterns.{pieces, matches};
-ghost use Rattle.target_filter.specs.Greedy.{after, greedy};
+ghost use Rattle.target_filter.specs.private.Greedy.{after, greedy};
 
 /// The place of the first star.
 fn star_at(pattern: &[u8]) -> Option<usize>

@@ -3,9 +3,9 @@
 ghost use Rattle.std.specs.Prelude.{◌≡◌, ◌≤◌, ◌<◌, ◌+◌, ◌^◌, length};
 ghost use Rattle.std.specs.Option.{IfSome, option_map};
 ghost use Rattle.std.specs.Result.{MatchResult};
-ghost use Rattle.target_filter.specs.Scanner as scan;
-ghost use Rattle.target_filter.specs.Scanner.{Ends, StopsBehind};
-ghost use Rattle.target_filter.specs.ScannerViews.{mode_of, move_of, state_of};
+ghost use Rattle.target_filter.specs.private.Scanner as scan;
+ghost use Rattle.target_filter.specs.private.Scanner.{Ends, StopsBehind};
+ghost use Rattle.target_filter.specs.private.ScannerViews.{mode_of, move_of, state_of};
 
 use crate::byte_kind::{is_bare_byte, is_quotable_byte, is_word_letter};
 use rollout_model::limits::WORD_LENGTH_LIMIT;

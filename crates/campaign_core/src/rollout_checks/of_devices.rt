@@ -1,7 +1,8 @@
 //! Feedback of devices, on whichever of their actions.
 
 ghost use Rattle.std.specs.Prelude.{◌≡◌, false, Some, None, MatchResult};
-ghost use Rattle.rollout_machine.specs.Verdicts.{same_outcome};
+ghost use Rattle.rollout_machine.specs.Ranges.{is_some_and};
+ghost use Rattle.rollout_machine.specs.Counts.{is_outcome};
 ghost use Rattle.campaign_core.specs.RolloutChecks.{device_refusal, is_fresh, report_refusal};
 
 use super::actions::ActionView;
@@ -29,7 +30,7 @@ pub struct FeedbackView {
 
 /// Whether the outcome that an action had is given again.
 fn is_same(gives: Option<Outcome>, had: Outcome) -> bool
-    ensures { result ≡ same_outcome gives (Some had) }
+    ensures { result ≡ is_some_and (λ o. is_outcome o (Some had)) gives }
 {
     match gives {
         Some(given) => is_outcome(given, Some(had)),

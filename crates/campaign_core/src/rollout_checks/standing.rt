@@ -2,7 +2,8 @@
 
 ghost use Rattle.std.specs.Prelude.{◌≡◌, ℕ, Some, None, MatchResult};
 ghost use Rattle.rollout_machine.specs.Commands.{Approve, Deny, Start, Pause};
-ghost use Rattle.rollout_machine.specs.Verdicts.{is_waiting, is_ready, is_running, is_at_pause};
+ghost use Rattle.rollout_machine.specs.StateWords.{WaitingForApproval, ReadyRollout, RunningRollout, PausedRollout};
+ghost use Rattle.rollout_machine.specs.Verdicts.{same_word};
 ghost use Rattle.campaign_core.specs.RolloutChecks.{word_refusal, Decides};
 ghost use Rattle.campaign_core.specs.declared.rollout_checks.RolloutCommandView.TheVariants as seen;
 
@@ -18,7 +19,8 @@ pub struct StandingView {
 
 /// Nothing where the rollout waits for approval, or the first refusal that applies.
 fn must_wait(word: Option<RolloutWord>) -> Result<(), Refusal>
-    ensures { MatchResult result (λ _. word_refusal is_waiting word ≡ None) (λ refusal. word_refusal is_waiting word ≡ Some refusal) }
+    ensures { MatchResult result (λ _. word_refusal (same_word WaitingForApproval) word ≡ None)
+        (λ refusal. word_refusal (same_word WaitingForApproval) word ≡ Some refusal) }
 {
     match word {
         None => Err(Refusal::NotFound),
@@ -29,7 +31,8 @@ fn must_wait(word: Option<RolloutWord>) -> Result<(), Refusal>
 
 /// Nothing where the rollout may be started, or the first refusal that applies.
 fn must_be_ready(word: Option<RolloutWord>) -> Result<(), Refusal>
-    ensures { MatchResult result (λ _. word_refusal is_ready word ≡ None) (λ refusal. word_refusal is_ready word ≡ Some refusal) }
+    ensures { MatchResult result (λ _. word_refusal (same_word ReadyRollout) word ≡ None)
+        (λ refusal. word_refusal (same_word ReadyRollout) word ≡ Some refusal) }
 {
     match word {
         None => Err(Refusal::NotFound),
@@ -40,7 +43,8 @@ fn must_be_ready(word: Option<RolloutWord>) -> Result<(), Refusal>
 
 /// Nothing where the rollout runs, or the first refusal that applies.
 pub(crate) fn must_run(word: Option<RolloutWord>) -> Result<(), Refusal>
-    ensures { MatchResult result (λ _. word_refusal is_running word ≡ None) (λ refusal. word_refusal is_running word ≡ Some refusal) }
+    ensures { MatchResult result (λ _. word_refusal (same_word RunningRollout) word ≡ None)
+        (λ refusal. word_refusal (same_word RunningRollout) word ≡ Some refusal) }
 {
     match word {
         None => Err(Refusal::NotFound),
@@ -51,7 +55,8 @@ pub(crate) fn must_run(word: Option<RolloutWord>) -> Result<(), Refusal>
 
 /// Nothing where the rollout is paused, or the first refusal that applies.
 pub(crate) fn must_be_paused(word: Option<RolloutWord>) -> Result<(), Refusal>
-    ensures { MatchResult result (λ _. word_refusal is_at_pause word ≡ None) (λ refusal. word_refusal is_at_pause word ≡ Some refusal) }
+    ensures { MatchResult result (λ _. word_refusal (same_word PausedRollout) word ≡ None)
+        (λ refusal. word_refusal (same_word PausedRollout) word ≡ Some refusal) }
 {
     match word {
         None => Err(Refusal::NotFound),

@@ -1,5 +1,5 @@
 use Rattle.ddi_api.proofs.Common.{refl}
-use Rattle.ddi_api.proofs.Facts.{reply_text-Refused}
+use Rattle.ddi_api.proofs.Facts.{text_of-Refused}
 use Rattle.hex.specs.Hex.{encode_with}
 use Rattle.http_wire.specs.Replies.{reason}
 use Rattle.serde_json.proofs.OnLiterals.{serde_json_on_literals}
@@ -7,7 +7,7 @@ use Rattle.std.specs.Fmt.{digits}
 use Rattle.ddi_api.proofs.laws.texts.Goals as goal
 
 pub returns-clause-refused : goal.returns-clause-refused
-returns-clause-refused c = reply_text-Refused
+returns-clause-refused c = text_of-Refused
 
 pub returns-clause-poll_reply : goal.returns-clause-poll_reply
 unfolding serde_json_on_literals digits reason

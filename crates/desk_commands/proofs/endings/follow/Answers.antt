@@ -1,5 +1,5 @@
 use Rattle.desk_commands.proofs.Answering.{ap, ◌∙◌, makes_then, ending_parts}
-use Rattle.desk_commands.specs.Endings.{own_after}
+use Rattle.desk_commands.specs.private.Endings.{own_after}
 use Rattle.desk_commands.proofs.endings.follow.Goals as goal
 
 pub returns-in_ok-change_group-in-Ends-clause-writes : goal.returns-in_ok-change_group-in-Ends-clause-writes

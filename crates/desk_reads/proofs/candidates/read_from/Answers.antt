@@ -1,6 +1,6 @@
 use Rattle.desk_reads.proofs.Common.{finds_as, subst, sym}
 use Rattle.desk_reads.proofs.BegunTargets.{all_begun, between_begun}
-use Rattle.desk_reads.specs.Candidates.{IsNextTo}
+use Rattle.desk_reads.specs.private.Candidates.{IsNextTo}
 use Rattle.desk_reads.proofs.candidates.read_from.Goals as goal
 
 pub returns-in_default-clause-reads : goal.returns-in_default-clause-reads

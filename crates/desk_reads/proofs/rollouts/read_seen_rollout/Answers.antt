@@ -1,4 +1,5 @@
 use Rattle.desk_reads.proofs.Common.{arith, both_found, finds_as, ledger_found}
+use Rattle.std.proofs.Common.{rules}
 use Rattle.desk_reads.proofs.rollouts.read_seen_rollout.Goals as goal
 
 pub returns-in-None-clause-reads : goal.returns-in-None-clause-reads
@@ -9,3 +10,6 @@ pub returns-clause-reads : goal.returns-clause-reads
 returns-clause-reads g c =
     finds_as (both_found (rw c.in-Some.is at (ledger_found _ c.in_ok-stored.ensures.reads)) c.in_ok-seen.ensures.reads)
     (λ r is of. grind arith)
+
+pub returns-clause-fails : goal.returns-clause-fails
+returns-clause-fails g c = search (c.in_ok-stored.ensures.fails, c.in_ok-seen.ensures.fails, rules)

@@ -1,5 +1,6 @@
 use Rattle.desk_reads.proofs.Common.{◌∙◌}
-use Rattle.desk_reads.proofs.Owned.{attributes_left_more, one_more_own, tags_left_more}
+use Rattle.desk_reads.specs.Targets.{listed_ids}
+use Rattle.desk_reads.proofs.Owned.{attributes_left_more, one_more_own, tags_left_more, wrong_list}
 use Rattle.desk_reads.proofs.targets.with_own.Goals as goal
 
 pub loop-entry-preserved : goal.loop-entry-preserved
@@ -18,3 +19,8 @@ loop-entry-preserved c = record {
       ((c.in_ok-words.ensures.ok tags.rise).0 ∙ tags.behind c.in-Some.entry.id)
       ((c.in_ok-own.ensures.ok attributes.rise).0 ∙ attributes.behind c.in-Some.entry.id) c.in_ok-target.ensures.ok c.in_ok-push.ensures.items;
 }
+
+pub returns-in_err-target-clause-err : goal.returns-in_err-target-clause-err
+returns-in_err-target-clause-err c =
+    wrong_list c.args.tags.now c.loop-entry.tags_left.now (listed_ids c.loop-entry.yielded) c.in-Some.entry.id c.in_ok-words.words.items
+    c.loop-entry.invariant.tags (λ rise. (c.in_ok-words.ensures.ok rise).0) _ c.in_err-target.ensures.err _ c.from_residual-in_err-target.ensures.1

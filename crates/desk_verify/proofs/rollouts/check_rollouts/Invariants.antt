@@ -1,5 +1,5 @@
 use Rattle.desk_verify.proofs.Common.{Ok, Fault, IsLastNumber, Rollouts, BlamesGiven, FindsTables, StaysIn, AreChecked}
-use Rattle.desk_verify.specs.RolloutChecks.{IsGoneThrough}
+use Rattle.desk_verify.specs.private.RolloutChecks.{IsGoneThrough}
 use Rattle.desk_verify.proofs.rollouts.check_rollouts.Given as goal
 
 -- so many rows were listed, and those of the rollouts so far are as they are to be

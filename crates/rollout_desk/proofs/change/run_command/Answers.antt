@@ -3,7 +3,7 @@ use Rattle.rollout_desk.proofs.ApplyLemmas.{fault_fails, unbegun, accepted, refu
 use Rattle.rollout_machine.specs.Replies.{Refused}
 use Rattle.desk_commands.specs.Failures.{TakesSteps}
 use Rattle.desk_store.specs.Failing.{ReadableAs}
-use Rattle.rollout_desk.specs.Changes.{RunsRequest}
+use Rattle.rollout_desk.specs.private.Changes.{RunsRequest}
 use Rattle.rollout_desk.proofs.CauseLemmas.{told_reply, accepted_never, failed_inside, refused_never, well_inside}
 use Rattle.sql_calls.specs.Calls.{Grows, failures_of}
 use Rattle.rollout_desk.proofs.VerifyLemmas.{failed_call}

@@ -4,8 +4,8 @@ use Rattle.stream_server.proofs.Common.{arith}
 use Rattle.rollout_machine.specs.Views.{reply_of}
 use Rattle.http_wire.specs.Replies.{answer_text}
 use Rattle.http_wire.specs.declared.reply.Answer.{Answer}
-use Rattle.ddi_api.specs.Replies.{parts_of as device_parts, reply_text as device_text}
-use Rattle.mgmt_api.specs.Replies.{parts_to, reply_text as manage_text}
+use Rattle.ddi_api.specs.Replies.{parts_of as device_parts}
+use Rattle.mgmt_api.specs.Replies.{parts_to, text_of}
 use Rattle.stream_server.specs.Interfaces.{reply_text}
 use Rattle.stream_server.proofs.bytes.answer_to.Goals as goal
 
@@ -17,11 +17,11 @@ manage_goes_on m reply success = grind arith
 device_goes_on : (reply : Reply) → is_for_devices reply ≡ true → (device_parts reply).ends ≡ false
 device_goes_on reply is = grind arith
 
-by_device : (m : WireMessage) (reply : Reply) → is_for_devices reply ≡ true → device_text reply ≡ reply_text m reply
+by_device : (m : WireMessage) (reply : Reply) → is_for_devices reply ≡ true → text_of (device_parts reply) ≡ reply_text m reply
 unfolding reply_text
 by_device m reply is = rw is refl
 
-by_manage : (m : WireMessage) (reply : Reply) → is_for_devices reply ≡ false → manage_text m reply ≡ reply_text m reply
+by_manage : (m : WireMessage) (reply : Reply) → is_for_devices reply ≡ false → text_of (parts_to m reply) ≡ reply_text m reply
 unfolding reply_text
 by_manage m reply is = rw is refl
 
@@ -34,7 +34,7 @@ pub returns-then-is_for_devices : goal.returns-then-is_for_devices
 returns-then-is_for_devices c =
     let reply = reply_of c.args.reply.now in
     let is : is_for_devices reply ≡ true = sym c.is_for_devices.ensures ∙ c.if-is_for_devices.true in
-    told (message_of c.args.message.now) reply c.device_reply.result (device_text reply) _ (λ success. device_goes_on reply is)
+    told (message_of c.args.message.now) reply c.device_reply.result (text_of (device_parts reply)) _ (λ success. device_goes_on reply is)
     (by_device (message_of c.args.message.now) reply is) c.device_reply.ensures.text
 
 pub returns-else-is_for_devices : goal.returns-else-is_for_devices
@@ -42,4 +42,4 @@ returns-else-is_for_devices c =
     let reply = reply_of c.args.reply.now in
     let m = message_of c.args.message.now in
     let is : is_for_devices reply ≡ false = sym c.is_for_devices.ensures ∙ c.if-is_for_devices.false in
-    told m reply c.manage_reply_to.result (manage_text m reply) _ (manage_goes_on m reply) (by_manage m reply is) c.manage_reply_to.ensures.text
+    told m reply c.manage_reply_to.result (text_of (parts_to m reply)) _ (manage_goes_on m reply) (by_manage m reply is) c.manage_reply_to.ensures.text

@@ -1,5 +1,5 @@
 use Rattle.stream_server.proofs.Common.{ℕ, sym, ap, ◌∙◌, err_from_is_err_and}
-use Rattle.stream_server.specs.Contents.{contents_head}
+use Rattle.stream_server.specs.private.Contents.{contents_head}
 use Rattle.stream_server.proofs.ContentsLemmas.{head_cut, piece_handed, piece_cut, interrupted}
 use Rattle.stream_server.proofs.download.send_contents.Goals as goal
 

@@ -1,6 +1,6 @@
 use Rattle.target_filter.proofs.Common.{List, ℕ, Option, sym, subst, arith}
 use Rattle.target_filter.specs.Grammar as grammar
-use Rattle.target_filter.specs.Gives.{Gives}
+use Rattle.target_filter.specs.private.Gives.{Gives}
 use Rattle.target_filter.proofs.AtomReading.{atom_else}
 use Rattle.target_filter.proofs.parser.+parser.Goals as goal
 

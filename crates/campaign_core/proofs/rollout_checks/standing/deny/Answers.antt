@@ -1,6 +1,8 @@
-use Rattle.campaign_core.proofs.Common.{None, Denied, is_waiting, with_approval}
+use Rattle.campaign_core.proofs.Common.{None, Denied, with_approval}
 use Rattle.campaign_core.proofs.RolloutLemmas.{changes_rollout, word_row}
 use Rattle.campaign_core.proofs.rollout_checks.standing.deny.Goals as goal
+use Rattle.rollout_machine.specs.StateWords.{WaitingForApproval}
 
 pub returns : goal.returns
-returns c r rs sound is = (word_row is_waiting c.args.view.now r rs None is c.in_ok-must_wait.ensures, changes_rollout rs sound r (with_approval Denied))
+returns c r rs sound is =
+    (word_row WaitingForApproval c.args.view.now r rs None is c.in_ok-must_wait.ensures, changes_rollout rs sound r (with_approval Denied))

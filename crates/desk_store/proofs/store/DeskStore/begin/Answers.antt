@@ -1,5 +1,5 @@
 use Rattle.desk_store.proofs.Answering.{HoldsLedger, HoldsTables, begin_is, begins, fails_to_begin, refl, rules}
-use Rattle.desk_store.specs.Texts.{begin_text}
+use Rattle.desk_store.specs.private.Texts.{begin_text}
 use Rattle.desk_store.proofs.store.DeskStore.begin.Goals as goal
 
 pub returns-in-Err : goal.returns-in-Err

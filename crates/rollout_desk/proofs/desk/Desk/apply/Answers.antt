@@ -1,4 +1,4 @@
-use Rattle.rollout_desk.specs.Knowing.{known_behind}
+use Rattle.rollout_desk.specs.private.Knowing.{known_behind}
 use Rattle.rollout_desk.proofs.Common.{ap, ◌∙◌, subst, sym, rules, command_of, reply_of, Do}
 use Rattle.rollout_desk.proofs.CauseLemmas.{stands_running}
 use Rattle.rollout_desk.proofs.DeskLemmas.{answers}

@@ -9,7 +9,7 @@ use Rattle.desk_records.specs.Tables.{Tables}
 use Rattle.desk_records.specs.declared.rollout_row.StoredRollout.{StoredRollout}
 use Rattle.desk_store.specs.Blaming.{Reading, ReadsOf}
 use Rattle.desk_verify.specs.Rollouts.{IsThere}
-use Rattle.desk_verify.specs.Judged.{AreJudged, within}
+use Rattle.desk_verify.specs.private.Judged.{AreJudged, within}
 
 -- it is the rollout of this number, which is from 1 on
 pub record HasRollout (t : Tables) (number : ℕ) (rollout : StoredRollout) : Type 0 where

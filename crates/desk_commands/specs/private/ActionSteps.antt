@@ -13,9 +13,9 @@ use Rattle.desk_records.specs.Holds.{Ledger}
 use Rattle.desk_records.specs.LedgerSteps.{set_numbered, with_actions, with_numbers}
 use Rattle.desk_records.specs.NewEntries.{TellsEntry}
 use Rattle.desk_records.specs.RolloutRow.{stored_action}
-use Rattle.desk_commands.specs.Endings.{FollowsChange}
-use Rattle.desk_commands.specs.Offering.{MayReoffer}
-use Rattle.desk_commands.specs.Telling.{CountsNumbers, TellsReports, entries_by, numbers_by, tally_by, with_reports}
+use Rattle.desk_commands.specs.private.Endings.{FollowsChange}
+use Rattle.desk_commands.specs.private.Offering.{MayReoffer}
+use Rattle.desk_commands.specs.private.Telling.{CountsNumbers, TellsReports, entries_by, numbers_by, tally_by, with_reports}
 use Rattle.desk_records.specs.declared.number_row.PlacedNumber.{PlacedNumber}
 use Rattle.desk_commands.specs.declared.seen_actions.SeenAction.{SeenAction}
 use Rattle.desk_commands.specs.declared.telling.Told.{Told}

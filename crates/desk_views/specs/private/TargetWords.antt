@@ -3,9 +3,11 @@ use Rattle.std.specs.Prelude.{Bool, true, map, Option, Some, None}
 use Rattle.std.specs.List.{last_or, zip}
 use Rattle.rollout_machine.specs.ByteStrings.{item_numbered}
 use Rattle.rollout_machine.specs.Commands.{Bytes}
+use Rattle.rollout_machine.specs.Ranges.{is_some_and}
 use Rattle.rollout_machine.specs.Records.{Records}
-use Rattle.rollout_machine.specs.StateWords.{group_holding, group_is_started}
+use Rattle.rollout_machine.specs.StateWords.{group_holding}
 use Rattle.rollout_machine.specs.declared.outcome.Outcome.{Outcome}
+use Rattle.rollout_machine.specs.declared.records.GroupRecord.{GroupRecord}
 use Rattle.desk_records.specs.Actions.{tally_of}
 use Rattle.desk_records.specs.RolloutRow.{ended_for}
 use Rattle.desk_records.specs.Rollouts.{groups_of}
@@ -14,7 +16,7 @@ use Rattle.desk_records.specs.declared.rollout_row.StoredAction.{StoredAction}
 
 -- whether the group of an action is started
 abbrev pub is_begun : Records → StoredAction → Bool
-is_begun r a = group_is_started (group_holding a.position (groups_of (item_numbered r.rollouts a.rollout)))
+is_begun r a = is_some_and (λ (g : GroupRecord). g.started) (group_holding a.position (groups_of (item_numbered r.rollouts a.rollout)))
 
 -- the last action of a target that ended
 abbrev pub last_ended : Records → Bytes → Option ListedAction

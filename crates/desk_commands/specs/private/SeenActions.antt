@@ -25,8 +25,8 @@ use Rattle.desk_reads.specs.AtLists.{AreOfList}
 use Rattle.desk_store.specs.GroupPairs.{group_and_next}
 use Rattle.desk_records.specs.declared.rollout_row.StoredAction.{StoredAction}
 use Rattle.desk_records.specs.declared.rollout_row.StoredRollout.{StoredRollout}
-use Rattle.desk_commands.specs.GroupViews.{view_by}
-use Rattle.desk_commands.specs.SeenReports.{StandsAt, asked}
+use Rattle.desk_commands.specs.private.GroupViews.{view_by}
+use Rattle.desk_commands.specs.private.SeenReports.{StandsAt, asked}
 use Rattle.desk_commands.specs.declared.seen_actions.SeenAction.{SeenAction}
 use Rattle.desk_commands.specs.declared.seen_actions.SeenFeedback.{SeenFeedback}
 

@@ -19,7 +19,7 @@ use Rattle.desk_records.specs.Holds.{Ledger}
 use Rattle.desk_records.specs.LedgerSteps.{SetsRollout}
 use Rattle.desk_reads.specs.Rollouts.{IsSeenOf}
 use Rattle.desk_reads.specs.declared.rollouts.SeenRollout.{SeenRollout}
-use Rattle.desk_commands.specs.GroupStarts.{StartsIf}
+use Rattle.desk_commands.specs.private.GroupStarts.{StartsIf}
 use Rattle.desk_commands.specs.declared.standing.Said.{Said}
 use Rattle.desk_commands.specs.declared.standing.Said.TheVariants.{Approved, Denied as SaidDenied, Paused}
 use Rattle.desk_commands.specs.declared.progress.Going.{Going}

@@ -1,13 +1,14 @@
 -- Actions as they are listed and shown.
 use Rattle.std.specs.Prelude.{ℕ, nat_eq, List, Option}
 use Rattle.std.specs.List.{find}
-use Rattle.std.specs.Option.{option_map}
+use Rattle.std.specs.Option.{option_map, option_map_or}
 use Rattle.rollout_machine.specs.ByteStrings.{item_numbered}
 use Rattle.rollout_machine.specs.Objects.{entry_shown}
+use Rattle.rollout_machine.specs.Ranges.{is_some_and}
 use Rattle.rollout_machine.specs.Records.{Records}
 use Rattle.rollout_machine.specs.Replies.{ShownAction, ShownEntry}
 use Rattle.rollout_machine.specs.Reports.{HistoryEntry, Reported}
-use Rattle.rollout_machine.specs.StateWords.{group_holding, group_is_started, number_of_group}
+use Rattle.rollout_machine.specs.StateWords.{group_holding}
 use Rattle.rollout_machine.specs.declared.records.ActionRecord.{ActionRecord}
 use Rattle.rollout_machine.specs.declared.records.GroupRecord.{GroupRecord}
 use Rattle.rollout_machine.specs.declared.records.RolloutRecord.{RolloutRecord}
@@ -28,9 +29,13 @@ abbrev pub shown_in : ListedAction → Option GroupRecord → ShownAction
 shown_in it group = record {
   number = it.number;
   rollout = it.action.rollout;
-  group = number_of_group group;
+  group = option_map_or (λ (g : GroupRecord). g.number) group 0;
   target = it.action.target;
-  word = action_word_from (record { outcome = it.action.outcome; started = group_is_started group; canceling = it.action.canceling });
+  word = action_word_from (record {
+    outcome = it.action.outcome;
+    started = is_some_and (λ (g : GroupRecord). g.started) group;
+    canceling = it.action.canceling;
+  });
 }
 
 -- among the groups of its rollout

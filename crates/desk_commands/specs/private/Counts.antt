@@ -3,8 +3,8 @@ use Rattle.std.specs.Prelude.{◌≡◌, ◌≤◌, ◌<◌, ◌^◌, ℕ, Optio
 use Rattle.sql_calls.specs.declared.fault.Fault.{Fault}
 use Rattle.sql_calls.specs.declared.fault.Fault.TheVariants.{Broken}
 use Rattle.campaign_core.specs.declared.rollout_checks.actions.ActionChange.{ActionChange}
-use Rattle.desk_commands.specs.Endings.{outcomes_after, own_after}
-use Rattle.desk_commands.specs.Telling.{entries_by, notes_by, numbers_told}
+use Rattle.desk_commands.specs.private.Endings.{outcomes_after, own_after}
+use Rattle.desk_commands.specs.private.Telling.{entries_by, notes_by, numbers_told}
 use Rattle.desk_commands.specs.declared.counts.Counts.{Counts}
 use Rattle.desk_commands.specs.declared.seen_actions.SeenAction.{SeenAction}
 use Rattle.desk_commands.specs.declared.telling.Told.{Told}

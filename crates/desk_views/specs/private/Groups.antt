@@ -3,7 +3,7 @@ use Rattle.std.specs.Prelude.{◌≡◌, ◌≤◌, ◌^◌, ◌⊎◌, ℕ, Lis
 use Rattle.sqlite_rules.specs.Lists.{Has}
 use Rattle.rollout_machine.specs.ByteStrings.{item_numbered}
 use Rattle.rollout_machine.specs.Records.{Records}
-use Rattle.rollout_machine.specs.StateWords.{size_of_group}
+use Rattle.rollout_machine.specs.Groups.{size_of_bounds}
 use Rattle.rollout_machine.specs.declared.records.GroupRecord.{GroupRecord}
 use Rattle.rollout_machine.specs.declared.records.RolloutRecord.{RolloutRecord}
 use Rattle.rollout_model.specs.declared.group_rule.GroupRule.{GroupRule}
@@ -12,7 +12,7 @@ use Rattle.rollout_model.specs.declared.group_rule.GroupRule.{GroupRule}
 pub record HasUnshown (rules : List GroupRule) (groups : List GroupRecord) : Type 0 where
   pub group : GroupRecord
   pub among : Has groups group
-  pub unshown : (item_numbered rules group.number ≡ None) ⊎ (2 ^ 32 ≤ size_of_group group)
+  pub unshown : (item_numbered rules group.number ≡ None) ⊎ (2 ^ 32 ≤ size_of_bounds group.bounds)
 
 -- the group is one of those of the rollout of a number
 pub record IsGroupOf (number : ℕ) (group : GroupRecord) (r : Records) : Type 0 where

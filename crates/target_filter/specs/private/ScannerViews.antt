@@ -4,7 +4,7 @@ use Rattle.target_filter.specs.declared.scanner.Mode.TheVariants as mode
 use Rattle.target_filter.specs.declared.scanner.Move.{Move}
 use Rattle.target_filter.specs.declared.scanner.Move.TheVariants as move
 use Rattle.target_filter.specs.declared.scanner.State.{State}
-use Rattle.target_filter.specs.Scanner as scan
+use Rattle.target_filter.specs.private.Scanner as scan
 
 abbrev pub mode_of : Mode → scan.Mode
 mode_of mode.AtomStart = scan.AtomStart

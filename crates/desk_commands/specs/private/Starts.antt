@@ -4,7 +4,7 @@ use Rattle.rollout_machine.specs.declared.records.GroupRecord.{GroupRecord}
 use Rattle.desk_records.specs.Holds.{Ledger}
 use Rattle.desk_records.specs.LedgerSteps.{AddsActions, SetsRollout}
 use Rattle.desk_reads.specs.declared.rollouts.SeenRollout.{SeenRollout}
-use Rattle.desk_commands.specs.GroupStarts.{StartsAndOffers}
+use Rattle.desk_commands.specs.private.GroupStarts.{StartsAndOffers}
 
 -- the rollout that is seen is started, each member gets an action, and then its first group starts
 pub record StartsWhole (r : ℕ) (seen : SeenRollout) (first : GroupRecord) (l next : Ledger) : Type 0 where

@@ -13,7 +13,7 @@ use Rattle.campaign_core.specs.declared.rollout_checks.actions.ActionChange.TheV
 use Rattle.campaign_core.specs.declared.rollout_checks.actions.Ending.{Ending}
 use Rattle.desk_records.specs.Holds.{Ledger}
 use Rattle.desk_records.specs.LedgerSteps.{set_numbered, with_groups, with_rollouts}
-use Rattle.desk_commands.specs.GroupStarts.{StartsIf}
+use Rattle.desk_commands.specs.private.GroupStarts.{StartsIf}
 use Rattle.desk_commands.specs.declared.seen_actions.SeenAction.{SeenAction}
 
 -- how many of this outcome the group counts

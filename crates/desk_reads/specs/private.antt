@@ -1,0 +1,2 @@
+-- What only clauses of private functions say: no public contract rests on it.
+pub mod Candidates

@@ -1,0 +1,5 @@
+-- What only clauses of private functions say: no public contract rests on it.
+pub mod Contents
+pub mod Actions
+pub mod TargetWords
+pub mod Groups

@@ -1,0 +1,3 @@
+-- What only clauses of private functions say: no public contract rests on it.
+pub mod Contents
+pub mod Reading
