@@ -81,3 +81,53 @@ module _ (row : Row) where
   shown n = inner
 """
     same(rests(rows), {"shown": 2, "inner": 2, "label": 2})
+
+
+SOURCE = """ghost use Rattle.one.specs.Shown.{IsShown};
+ghost use Rattle.one.specs.{folder}Steps.{{IsStep}};
+
+pub fn show(n: u32) -> u32
+    ensures {{ IsShown n result }}
+{{
+    step(n)
+}}
+
+{visible}fn step(n: u32) -> u32
+    ensures {{ IsStep n result }}
+{{
+    n
+}}
+"""
+
+
+def misplaced(visible, folder):
+    """What is said of Shown and Steps, where a function of this visibility names Steps, which lies in this folder of specs/."""
+    step = "pub IsStep : ℕ → ℕ → Type 0\nIsStep n m = n ≡ m\n"
+    shown = "pub IsShown : ℕ → ℕ → Type 0\nIsShown n m = n ≡ m\n"
+    files = {
+        "one_src_lib_rt": SOURCE.replace("{IsShown}", "{{IsShown}}").format(
+            visible=visible, folder="private." if folder else ""
+        ),
+        "one_specs_Lib_antt": "pub mod Shown\n",
+        "one_specs_Shown_antt": shown,
+        f"one_specs_{'private_' if folder else ''}Steps_antt": step,
+    }
+    with written(**files) as crates:
+        return list(LIST.Definitions(crates).misplaced())
+
+
+def test_what_a_private_clause_alone_reaches_stands_apart():
+    same(misplaced("", folder=True), [])
+    same(misplaced("pub(crate) ", folder=True), [])
+    same(
+        misplaced("", folder=False),
+        [("one/specs/Steps.antt", "no public clause reaches it: it belongs in specs/private")],
+    )
+
+
+def test_what_a_public_clause_reaches_does_not():
+    same(misplaced("pub ", folder=False), [])
+    same(
+        misplaced("pub ", folder=True),
+        [("one/specs/private/Steps.antt", "a public clause reaches IsStep")],
+    )

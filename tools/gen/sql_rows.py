@@ -122,13 +122,15 @@ class Sources:
                 if crate == "desk_records":
                     self.functions |= {name: module for name in re.findall(r"fn (\w+)[(<]", text)}
         for crate in ("rollout_model", "desk_records"):
-            for path in sorted((crates / crate / "specs").glob("*.antt")):
+            specs = crates / crate / "specs"
+            for path in sorted(specs.rglob("*.antt")):
                 if path.stem == "ReadRows":
                     continue
+                module = ".".join(path.relative_to(specs).with_suffix("").parts)
                 for name in re.findall(
                     r"^(?:abbrev pub|pub record|pub data) ([\w']+)", path.read_text(), re.M
                 ):
-                    self.words[name] = f"Rattle.{crate}.specs.{path.stem}"
+                    self.words[name] = f"Rattle.{crate}.specs.{module}"
 
     def type_of(self, name):
         return found("struct", name, self.types)
@@ -584,7 +586,7 @@ class Rows:
             f"ghost {line};"
             for it in [
                 used(f"{DESK}.specs.ReadRows", words),
-                used(f"{STORE}.specs.Rows", ["BreaksRule"]),
+                used(f"{STORE}.specs.private.Rows", ["BreaksRule"]),
             ]
             for line in it.splitlines()
         ]
