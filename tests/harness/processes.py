@@ -20,6 +20,19 @@ RESERVED = []
 ENDED = object()
 
 
+def is_free(port):
+    """Whether nobody listens to a port. It isn't listened to for that: a child that another thread starts meanwhile has the
+    socket too until it runs its program, and a client that came to it would be reset then."""
+    with socket.socket() as probe:
+        # (else connections that ended a moment ago would count)
+        probe.setsockopt(socket.SOL_SOCKET, socket.SO_REUSEADDR, 1)
+        try:
+            probe.bind((HOST, port))
+        except OSError:
+            return False
+    return True
+
+
 def free_port():
     """A port that nobody listens to. It is below those that the kernel gives to connections, so none of them has it before it
     is listened to; and no other test of this machine is given it, until this process has been given a hundred more.
@@ -30,8 +43,10 @@ def free_port():
         try:
             # an abstract socket's name is one process's, and goes with it
             mark.bind(f"\0fwdesk-test-port-{port}")
-            socket.create_server((HOST, port)).close()
+            is_mine = is_free(port)
         except OSError:
+            is_mine = False
+        if not is_mine:
             mark.close()
             continue
         RESERVED.append(mark)
