@@ -1,4 +1,6 @@
 """Tests of `tools/proof/rt-ci`: in which order it has `rt ci` prove crates, and by how many processors each."""
+import os
+import subprocess
 import tempfile
 import threading
 from pathlib import Path
@@ -68,6 +70,24 @@ def test_the_longest_chain_begins_first():
     below = {"alone": [], "low": [], "high": ["low"]}
     begun, _, _ = run_lanes(below, {"alone": 5, "low": 1, "high": 9}, lanes=1)
     same([name for name, _ in begun], ["low", "high", "alone"])
+
+
+def test_those_beside_the_longest_chain_step_back():
+    own, found = os.nice(0), {}
+
+    def call(name):
+        def task(given, jobs):
+            # of a thread, and so of what it starts
+            found[name] = int(subprocess.check_output(["nice"])) - own
+            return True
+
+        return task
+
+    works, below = {"low": 2, "side": 5, "high": 9}, {"low": [], "side": [], "high": ["low"]}
+    tasks = {it: (below[it], works[it], 1.0, call(it)) for it in below}
+    RT_CI.Lanes(tasks, 4, ROOM, lambda *told: None).run()
+    same(found, {"low": 0, "side": RT_CI.NICER, "high": 0})
+    same(os.nice(0), own)
 
 
 def test_memory_for_one_process_is_one_job():
