@@ -216,3 +216,19 @@ def test_at_most_four_of_a_crate_are_in_the_gate():
     edits, wrong = bodies.all_edits([], ["gate"])
     same(wrong, [])
     same({name: len(found) for name, found in edits.items() if len(found) > 4}, {})
+
+
+def test_a_check_is_run_and_its_processors_are_counted():
+    status, said, used = bodies.run(["sh", "-c", "echo told; echo why >&2; exit 3"], ROOT)
+    same((status, said), (3, "told\nwhy\n"))
+    assert 0 <= used < 5, used
+
+
+def test_a_check_that_takes_too_long_is_killed():
+    own, bodies.SECONDS = bodies.SECONDS, 0.2
+    try:
+        status, said, _ = bodies.run(["sleep", "60"], ROOT)
+    finally:
+        bodies.SECONDS = own
+    same(status, -9)
+    assert "it was killed" in said, said
