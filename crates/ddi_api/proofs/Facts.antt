@@ -1,7 +1,6 @@
 -- What the contracts rest on beside their callees.
-use Rattle.ddi_api.proofs.Common.{◌≡◌, ℕ, List, Bool, true, false, cond, Some, None, bytes_eq, refl, route_in, Refusal, Refused, device_table, method_of}
-use Rattle.std.specs.Str.{IsUtf8, is_utf8}
-use Rattle.std.proofs.lemmas.Str.{is_utf8-from_IsUtf8, IsUtf8-from_is_utf8}
+use Rattle.ddi_api.proofs.Common.{◌≡◌, ℕ, List, Bool, true, false, cond, Some, None, bytes_eq, refl, Refusal, Refused, device_table, method_of}
+use Rattle.std.specs.Str.{IsUtf8}
 use Rattle.matchit.proofs.OnLiterals.{matchit_on_literals}
 use Rattle.rollout_model.specs.Rules.{is_spelled, is_word_letter}
 use Rattle.rollout_model.proofs.RuleLemmas.{spelled_is_utf8}
@@ -21,18 +20,6 @@ use Rattle.request_target.specs.Routes.{route_of}
 pub device_table_is_good : are_routes device_table ≡ true
 unfolding matchit_on_literals
 device_table_is_good = refl
-
-pub route_of-text : (path : List ℕ) → IsUtf8 path → route_of device_table path ≡ route_in device_table path
-unfolding route_of
-route_of-text path text = rw (is_utf8-from_IsUtf8 path text) refl
-
-pub route_of-no_text : (path : List ℕ) → (IsUtf8 path → ⊥) → route_of device_table path ≡ None
-unfolding route_of
-route_of-no_text path unread = by (is_utf8 path) (λ is. unread (IsUtf8-from_is_utf8 path is))
-  where
-    by : (v : Bool) → (v ≡ true → ⊥) → cond v (route_in device_table path) None ≡ None
-    by true no_text = absurd (no_text refl)
-    by false no_text = refl
 
 -- what is spelled in the letters of words is a text
 pub spelled-no_text : (low high : ℕ) (bs : List ℕ) → (IsUtf8 bs → ⊥) → None ≡ cond (is_spelled is_word_letter low high bs) (Some bs) None

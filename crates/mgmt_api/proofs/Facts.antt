@@ -1,8 +1,7 @@
 -- What the contracts rest on beside their callees.
 use Rattle.std.proofs.Common.{◌≡◌, ◌≢◌, ◌⊎◌, inl, inr, ℕ, List, [], ◌∷◌, Bool, true, false, cond, map, Some, None, Result, Ok, Err, IfOk, IfErr, refl, ap}
 use Rattle.std.proofs.Common.{arith, rules}
-use Rattle.std.specs.Str.{IsUtf8, is_utf8}
-use Rattle.std.proofs.lemmas.Str.{is_utf8-from_IsUtf8, IsUtf8-from_is_utf8}
+use Rattle.std.specs.Str.{IsUtf8}
 use Rattle.matchit.proofs.OnLiterals.{matchit_on_literals}
 use Rattle.http_wire.specs.Messages.{WireMessage}
 use Rattle.http_wire.specs.Replies.{refusal_text}
@@ -17,7 +16,6 @@ use Rattle.rollout_model.proofs.RuleLemmas.{spelled_is_utf8}
 use Rattle.rollout_machine.specs.Requests.{Asked, Asks, Rejected}
 use Rattle.rollout_machine.specs.Views.{listed, listed_targets, request_of, shown_target}
 use Rattle.request_target.specs.Rows.{are_routes}
-use Rattle.request_target.specs.Routes.{route_in, route_of}
 use Rattle.mgmt_api.specs.Routes.{manage_table}
 use Rattle.serde_json.specs.Written.{compact_text}
 use Rattle.mgmt_objects.specs.Pages.{page_data}
@@ -32,18 +30,6 @@ manage_table_is_good = refl
 pub text_of-Refused : (m : WireMessage) (refusal : Refusal) → text_of (parts_to m (Refused refusal)) ≡ refusal_text refusal
 unfolding refusal_text
 text_of-Refused m refusal = refl
-
-pub route_of-text : (path : List ℕ) → IsUtf8 path → route_of manage_table path ≡ route_in manage_table path
-unfolding route_of
-route_of-text path text = rw (is_utf8-from_IsUtf8 path text) refl
-
-pub route_of-no_text : (path : List ℕ) → (IsUtf8 path → ⊥) → route_of manage_table path ≡ None
-unfolding route_of
-route_of-no_text path unread = by (is_utf8 path) (λ is. unread (IsUtf8-from_is_utf8 path is))
-  where
-    by : (v : Bool) → (v ≡ true → ⊥) → cond v (route_in manage_table path) None ≡ None
-    by true no_text = absurd (no_text refl)
-    by false no_text = refl
 
 map-shown_target : (targets : List ShownTarget) → map shown_target_data (map shown_target targets) ≡ map target_data targets
 map-shown_target [] = refl

@@ -9,3 +9,4 @@ pub mod Apart
 pub mod Segments
 pub mod SegmentLemmas
 pub mod TableRows
+pub mod RouteLemmas
