@@ -96,7 +96,7 @@ pub use Rattle.desk_store.specs.Failing.{FailsGiven, AreActionsNumbered, Readabl
 pub use Rattle.desk_store.specs.Breaking.{HasReason}
 pub use Rattle.desk_store.specs.GroupPairs.{group_and_next}
 pub use Rattle.desk_store.specs.Readable.{IsReadable}
-pub use Rattle.desk_store.specs.declared.change.OpenChange.{OpenChange}
+pub use Rattle.sql_calls.specs.declared.calls.Calls.{Calls}
 pub use Rattle.desk_store.specs.declared.groups.GroupAndNext.{GroupAndNext}
 pub use Rattle.desk_reads.proofs.HistoryKept.{details_kept}
 pub use Rattle.desk_reads.proofs.RuleLemmas.{rule_there, rules_there, said_of, same_number}

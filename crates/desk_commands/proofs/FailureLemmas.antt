@@ -1,8 +1,9 @@
 -- When a command tells broken rows, by what was read before.
 use Rattle.desk_commands.proofs.Common.{◌≡◌, Option, Some, Ok, Err, Result, arith, IsErrAnd, ok_or, Sees, Wears, CommandList, IsValid}
 use Rattle.desk_commands.proofs.Common.{Records, records, HoldsLedger, Ledger, ledger_of, seen_in, Fault, Ghosts, FailsGiven, HasReason, ReadableAs}
-use Rattle.desk_commands.proofs.Common.{IsReadable, OpenChange, IsOfList, FailsWriting}
+use Rattle.desk_commands.proofs.Common.{IsReadable, Calls, IsOfList, FailsWriting}
 use Rattle.desk_commands.specs.Failures.{FailsWritingIn}
+use Rattle.desk_store.specs.Changing.{StaysIn}
 use Rattle.sqlite.specs.State.{State}
 use Rattle.sql_calls.specs.Standing.{Finds}
 
@@ -16,7 +17,7 @@ Exits Given was new fault = (l : Ledger) → Sees HoldsLedger was l → Readable
 
 -- ---- the exit of a `?`
 
-module _ {S B : Type 0} {g : Ghosts S} {Given : Ledger → Type 0} {old new : OpenChange S} where
+module _ {S B : Type 0} {g : Ghosts S} {Given : Ledger → Type 0} {old new : Calls S} where
   -- .. where it reads
   pub reads_end : {fault : Fault} → Exits Given (seen_in g old) (seen_in g new) fault → {out : Result B Fault} → IsErrAnd out (λ e. e ≡ fault)
       → FailsGiven g Given old new out
@@ -35,7 +36,7 @@ module _ {S B : Type 0} {g : Ghosts S} {Given : Ledger → Type 0} {old new : Op
 -- ---- behind a write
 
 -- what reads and then writes behind it, where the ledger between can be read
-pub writes_behind : {S B : Type 0} {g : Ghosts S} {Given : Ledger → Type 0} {old mid new : OpenChange S}
+pub writes_behind : {S B : Type 0} {g : Ghosts S} {Given : Ledger → Type 0} {old mid new : Calls S}
     → ((l : Ledger) → Sees HoldsLedger (seen_in g old) l → ReadableAs Given l → (next : Ledger) × IsReadable next × Sees HoldsLedger (seen_in g mid) next)
     → (out : Result B Fault) → FailsWritingIn g mid new out → FailsWriting g Given old new out
 writes_behind means out w = grind arith
@@ -70,3 +71,14 @@ module _ {A : Type 0} {Given : Ledger → Type 0} {was new : State} {x : A} {fau
   pub never_at : ((l : Ledger) → Given l → IsOfList l) → {P : Records → A → Type 0} → Finds HoldsLedger ledger_of {E = Fault} was new (Ok x) P
       → ((h : CommandList) → IsValid h → P (records h) x → Given (ledger_of (records h)) → ⊥) → Exits Given was new fault
   never_at listed read why = asked_at listed read {Asked = λ l. ⊥} (omega arith) why (never_given (λ l none. none))
+
+-- ---- one call after the other
+
+pub stays_then : {S A B : Type 0} {g : Ghosts S} {a b c : Calls S} {x : A} → StaysIn g a b (Ok x) → (out : Result B Fault) → StaysIn g b c out
+    → StaysIn g a c out
+stays_then first out second = grind arith
+
+-- .. at a `?`
+pub stays_end : {S A B : Type 0} {g : Ghosts S} {a b : Calls S} {fault : Fault} → StaysIn g {A = A} a b (Err fault) → (out : Result B Fault)
+    → IsErrAnd out (λ e. e ≡ fault) → StaysIn g a b out
+stays_end first out is = grind arith

@@ -4,7 +4,9 @@ use Rattle.desk_commands.proofs.Common.{◌≡◌, ◌≤◌, ◌<◌, ◌&&◌,
 use Rattle.desk_commands.proofs.Common.{arith, length-map, list_all, and_parts, ledger_of, Wears, Fault, Refusal, CommandList}
 use Rattle.desk_commands.proofs.Common.{◌▸◌, IsValid, Records, records, records_step, step_records, put_targets, change_target, TargetRow, PutTargets, Target}
 use Rattle.desk_commands.proofs.Common.{check, same_bytes, renamed, with_changed, Has, is_digest, is_tag_list, is_text, is_word, limits_hold, IsReadable}
-use Rattle.desk_commands.proofs.Common.{seen_in, OpenChange, Ghosts, FailsWriting, TakesRow, TakesRows, kept_to}
+use Rattle.desk_commands.proofs.Common.{seen_in, Calls, Ghosts, FailsWriting, TakesRow, TakesRows, kept_to, HoldsLedger}
+use Rattle.desk_store.specs.Breaking.{TellsFirst}
+use Rattle.desk_store.specs.Failing.{ReadableAs, nothing}
 use Rattle.std.proofs.lemmas.List.Folds.{list_all_at}
 use Rattle.rollout_model.specs.Rows.{is_target_row}
 use Rattle.desk_records.proofs.Membership.{has_mapped}
@@ -61,8 +63,13 @@ good_at : {X : Type 0} (p : X → Bool) (xs : List X) (k : ℕ) (x : X) → k < 
 good_at p xs k x below is all = grind (arith, list_all_at p xs k x, below, is, all)
 
 -- behind those that are put before it
-pub rows_end : {S : Type 0} {g : Ghosts S} {was : State} {mid new : OpenChange S} {fault : Fault} (rows : List TargetRow) (row : TargetRow) (k : ℕ)
+rows_end_at : {was mid new : State} {fault : Fault} (rows : List TargetRow) (row : TargetRow) (k : ℕ)
+    → k < length rows → row ≡ get_or rows k row → (left : Option ℕ) → PutsSoFar was mid (take k rows) left → Wears mid new
+    → TellsFirst HoldsLedger (ReadableAs (TakesRow row)) nothing {A = Result (Option ℕ) Refusal} mid new (Err fault) → Exits (TakesRows rows) was new fault
+rows_end_at rows row k below at left so_far wears w = grind (arith, kept_to, few_left, put_readable, put_valid, put_is, good_at)
+
+pub rows_end : {S : Type 0} {g : Ghosts S} {was : State} {mid new : Calls S} {fault : Fault} (rows : List TargetRow) (row : TargetRow) (k : ℕ)
     → k < length rows → row ≡ get_or rows k row → (left : Option ℕ) → PutsSoFar was (seen_in g mid) (take k rows) left
     → Wears (seen_in g mid) (seen_in g new) → FailsWriting g (TakesRow row) {A = Result (Option ℕ) Refusal} mid new (Err fault)
     → Exits (TakesRows rows) was (seen_in g new) fault
-rows_end rows row k below at left so_far wears w = grind (arith, kept_to, few_left, put_readable, put_valid, put_is, good_at)
+rows_end rows row k below at left so_far wears w = rows_end_at rows row k below at left so_far wears (record { to = w.to })

@@ -2,12 +2,12 @@
 use Rattle.std.specs.Prelude.{Result}
 use Rattle.sqlite.specs.Store.{Ghosts}
 use Rattle.desk_store.specs.Changing.{seen_in}
-use Rattle.desk_store.specs.declared.change.OpenChange.{OpenChange}
+use Rattle.sql_calls.specs.declared.calls.Calls.{Calls}
 use Rattle.rollout_machine.specs.Commands.{Command}
 use Rattle.desk_commands.specs.Steps.{Steps}
 use Rattle.desk_commands.specs.declared.step.Step.{Step}
 
 module _ {S : Type 0} (g : Ghosts S) where
   -- one command
-  abbrev pub StepsIn : {E : Type 0} → OpenChange S → OpenChange S → Command → Result Step E → Type 0
+  abbrev pub StepsIn : {E : Type 0} → Calls S → Calls S → Command → Result Step E → Type 0
   StepsIn old new c result = Steps (seen_in g old) (seen_in g new) c result

@@ -20,7 +20,7 @@ use Rattle.desk_records.specs.declared.target_row.StoredTarget.{StoredTarget}
 use Rattle.desk_store.specs.Breaking.{BreaksFirst}
 use Rattle.desk_store.specs.Failing.{ReadableAs, nothing}
 use Rattle.desk_store.specs.Readable.{IsReadable}
-use Rattle.desk_store.specs.declared.change.OpenChange.{OpenChange}
+use Rattle.sql_calls.specs.declared.calls.Calls.{Calls}
 use Rattle.desk_reads.specs.AtLists.{IsOfList}
 use Rattle.desk_reads.specs.Rollouts.{IsSeenOf}
 use Rattle.desk_reads.specs.declared.rollouts.SeenRollout.{SeenRollout}
@@ -28,11 +28,11 @@ use Rattle.desk_reads.specs.Counted.{AreCounted}
 
 module _ {S : Type 0} (g : Ghosts S) where
   -- what reads and then writes: where the ledger before can be read, and is as given, broken rows are never told
-  abbrev pub FailsWriting : (Ledger → Type 0) → {A : Type 0} → OpenChange S → OpenChange S → Result A Fault → Type 0
+  abbrev pub FailsWriting : (Ledger → Type 0) → {A : Type 0} → Calls S → Calls S → Result A Fault → Type 0
   FailsWriting Given = BreaksFirst g HoldsLedger (ReadableAs Given) nothing
 
   -- .. whatever it is
-  abbrev pub FailsWritingIn : {A : Type 0} → OpenChange S → OpenChange S → Result A Fault → Type 0
+  abbrev pub FailsWritingIn : {A : Type 0} → Calls S → Calls S → Result A Fault → Type 0
   FailsWritingIn = BreaksFirst g HoldsLedger IsReadable nothing
 
 -- ---- steps
@@ -50,7 +50,7 @@ pub record Leads (Change : Ledger → Ledger → Type 0) (l : Ledger) : Type 0 w
 
 module _ {S : Type 0} (g : Ghosts S) where
   -- a step: where such a ledger is seen and can be read, a failed store is a call that failed
-  abbrev pub FailsStepIn : {A : Type 0} → OpenChange S → OpenChange S → Result A Fault → Type 0
+  abbrev pub FailsStepIn : {A : Type 0} → Calls S → Calls S → Result A Fault → Type 0
   FailsStepIn = FailsWriting g TakesSteps
 
 -- ---- the action that was seen

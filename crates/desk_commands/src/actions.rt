@@ -22,7 +22,7 @@ use crate::seen_actions::{SeenAction, cancel_view, device_action, see_feedback, 
 use crate::step::Step;
 use crate::telling::{Told, write_told};
 use campaign_core::{ActionChange, cancel, cancel_feedback, feedback, own_action};
-use desk_store::{Fault, OpenChange, tell_entry};
+use desk_store::{Calls, Fault, change_action, tell_entry};
 use rollout_machine::Outcome;
 use rollout_model::{Cancel, CancelWord, DeploymentWord, DeviceFeedback, Refusal, Reply, Said};
 use sqlite::Alter;
@@ -50,20 +50,21 @@ fn outcome_by(seen: &SeenAction, after: &ActionChange) -> Option<Outcome>
 
 /// Writes what was told of an action, and what becomes of it.
 fn tell_action<S: Alter>(
-    change: &mut OpenChange<'_, S>,
+    calls: &mut Calls<S>,
     seen: &SeenAction,
     after: &ActionChange,
     told: &Option<Told>,
     counts: &Counts,
 ) -> Result<(), Fault>
-    ensures stays { WritesIn S.Store change.old change.new result }
+    ensures stays { WritesIn S.Store calls.old calls.new result }
     ensures writes { counts.now ≡ counts_after seen.now after.now told.now
-        → MakesLedger S.Store change.old change.new result (TellsAction seen.now after.now told.now) }
-    ensures work { AddsIn (2 + if_numbered (number_told told.now) 1) 0 change.old change.new }
+        → MakesLedger S.Store calls.old calls.new result (TellsAction seen.now after.now told.now) }
+    ensures work { AddsIn (2 + if_numbered (number_told told.now) 1) 0 calls.old calls.new }
 {
     let outcome = outcome_by(seen, after);
-    write_told(change, seen.number, counts, told)?;
-    change.change_action(
+    write_told(calls, seen.number, counts, told)?;
+    change_action(
+        calls,
         seen.number,
         canceling_by(after),
         outcome,
@@ -90,78 +91,78 @@ fn stays_offered(seen: &SeenAction, after: &ActionChange) -> bool
 
 /// Looks up again what the target of an action is offered in its place, unless it is offered the action as before.
 fn offer_next<S: Alter>(
-    change: &mut OpenChange<'_, S>,
+    calls: &mut Calls<S>,
     seen: &SeenAction,
     after: &ActionChange,
 ) -> Result<(), Fault>
-    ensures stays { StaysIn S.Store change.old change.new result }
-    ensures writes { MakesLedger S.Store change.old change.new result
+    ensures stays { StaysIn S.Store calls.old calls.new result }
+    ensures writes { MakesLedger S.Store calls.old calls.new result
         (MayReoffer (stays_offered seen.now.action.canceling after.now) seen.now.action.target seen.now.number) }
-    ensures fails { FailsSeeing S.Store AreActionsNumbered change.old change.new result }
-    ensures work { AddsIn 2 1 change.old change.new }
+    ensures fails { FailsSeeing S.Store AreActionsNumbered calls.old calls.new result }
+    ensures work { AddsIn 2 1 calls.old calls.new }
 {
     if stays_offered(seen, after) {
         return Ok(());
     }
-    offer_anew(change, &seen.action.target, seen.number)
+    offer_anew(calls, &seen.action.target, seen.number)
 }
 
 /// Writes what becomes of an action, and all that follows: its target's offer is looked up again once the action is written
 /// and before a group starts. What is counted then has room before anything is written.
 fn act<S: Alter>(
-    change: &mut OpenChange<'_, S>,
+    calls: &mut Calls<S>,
     seen: &SeenAction,
     after: &ActionChange,
     told: &Option<Told>,
 ) -> Result<(), Fault>
-    ensures stays { StaysIn S.Store change.old change.new result }
-    ensures writes { MakesLedger S.Store change.old change.new result (Acts seen.now after.now told.now) }
-    ensures fails { FailsWriting S.Store (Leads (Acts seen.now after.now told.now)) change.old change.new result }
-    ensures work { AddsIn (7 + if_numbered (number_told told.now) 1) 1 change.old change.new }
+    ensures stays { StaysIn S.Store calls.old calls.new result }
+    ensures writes { MakesLedger S.Store calls.old calls.new result (Acts seen.now after.now told.now) }
+    ensures fails { FailsWriting S.Store (Leads (Acts seen.now after.now told.now)) calls.old calls.new result }
+    ensures work { AddsIn (7 + if_numbered (number_told told.now) 1) 1 calls.old calls.new }
 {
     let counts = counts_after(seen, after, told)?;
-    tell_action(change, seen, after, told, &counts)?;
-    offer_next(change, seen, after)?;
-    follow(change, seen, after, &counts.own)
+    tell_action(calls, seen, after, told, &counts)?;
+    offer_next(calls, seen, after)?;
+    follow(calls, seen, after, &counts.own)
 }
 
 /// Writes what becomes of an action by accepted feedback, where something does. `numbers` is how many the action has before. The memory
 /// for the report is taken before anything is written.
 fn write_feedback<S: Alter, W: Copy>(
     alloc: Global,
-    change: &mut OpenChange<'_, S>,
+    calls: &mut Calls<S>,
     seen: &SeenAction,
     after: &Option<ActionChange>,
     numbers: u32,
     given: &DeviceFeedback<W>,
     said: Said,
 ) -> Result<(), Fault>
-    ensures stays { StaysIn S.Store change.old change.new result }
-    ensures writes { MakesLedger S.Store change.old change.new result
+    ensures stays { StaysIn S.Store calls.old calls.new result }
+    ensures writes { MakesLedger S.Store calls.old calls.new result
         (WritesFeedback seen.now after.now numbers (reported (λ word. said) given.now)) }
-    ensures fails { FailsWriting S.Store (Leads (WritesFeedback seen.now after.now numbers (reported (λ word. said) given.now))) change.old change.new result }
-    ensures work { AddsIn (cond (is_some after.now) (7 + if_numbered given.now.number 1) 0) (cond (is_some after.now) 1 0) change.old change.new }
+    ensures fails { FailsWriting S.Store (Leads (WritesFeedback seen.now after.now numbers (reported (λ word. said) given.now))) calls.old calls.new result }
+    ensures work { AddsIn (cond (is_some after.now) (7 + if_numbered given.now.number 1) 0) (cond (is_some after.now) 1 0) calls.old calls.new }
 {
     let Some(after) = after else {
         return Ok(());
     };
     let entry = tell_entry(alloc, said, &given.details, given.number)?;
-    act(change, seen, after, &Some(Told { entry, numbers }))
+    act(calls, seen, after, &Some(Told { entry, numbers }))
 }
 
 /// Takes feedback on a deployment.
 pub(crate) fn take_feedback<S: Alter>(
     alloc: Global,
-    change: &mut OpenChange<'_, S>,
+    calls: &mut Calls<S>,
     given: &DeviceFeedback<DeploymentWord>,
 ) -> Result<Step, Fault>
-    ensures stays { StaysIn S.Store change.old change.new result }
-    ensures steps { IsWellFormed (Feedback given.now) → StepsIn S.Store change.old change.new (Feedback given.now) result }
-    ensures fails { IsWellFormed (Feedback given.now) → FailsStepIn S.Store change.old change.new result }
-    ensures work { AddsIn (12 + if_numbered given.now.number 2) (7 + if_numbered given.now.number 1) change.old change.new }
+    ensures stays { StaysIn S.Store calls.old calls.new result }
+    ensures steps { IsWellFormed (Feedback given.now) → StepsIn S.Store calls.old calls.new (Feedback given.now) result }
+    ensures fails { IsWellFormed (Feedback given.now) → FailsStepIn S.Store calls.old calls.new result }
+    ensures work { AddsIn (12 + if_numbered given.now.number 2) (7 + if_numbered given.now.number 1) calls.old calls.new }
 {
     let said = Said::Deployment(given.word);
-    let seen = see_feedback(change, given, said)?;
+    let seen = see_feedback(calls, given, said)?;
     let report = seen.report;
     let action = match own_action(seen.misses_device, &seen.action) {
         Ok(action) => action,
@@ -171,23 +172,23 @@ pub(crate) fn take_feedback<S: Alter>(
         Ok(after) => after,
         Err(refusal) => return Ok(Step::Refused(refusal)),
     };
-    write_feedback(alloc, change, &action, &after, report.numbers, given, said)?;
+    write_feedback(alloc, calls, &action, &after, report.numbers, given, said)?;
     Ok(Step::Accepted(Reply::Done))
 }
 
 /// Takes feedback on the cancel of a deployment.
 pub(crate) fn take_cancel_feedback<S: Alter>(
     alloc: Global,
-    change: &mut OpenChange<'_, S>,
+    calls: &mut Calls<S>,
     given: &DeviceFeedback<CancelWord>,
 ) -> Result<Step, Fault>
-    ensures stays { StaysIn S.Store change.old change.new result }
-    ensures steps { IsWellFormed (CancelFeedback given.now) → StepsIn S.Store change.old change.new (CancelFeedback given.now) result }
-    ensures fails { IsWellFormed (CancelFeedback given.now) → FailsStepIn S.Store change.old change.new result }
-    ensures work { AddsIn (12 + if_numbered given.now.number 2) (7 + if_numbered given.now.number 1) change.old change.new }
+    ensures stays { StaysIn S.Store calls.old calls.new result }
+    ensures steps { IsWellFormed (CancelFeedback given.now) → StepsIn S.Store calls.old calls.new (CancelFeedback given.now) result }
+    ensures fails { IsWellFormed (CancelFeedback given.now) → FailsStepIn S.Store calls.old calls.new result }
+    ensures work { AddsIn (12 + if_numbered given.now.number 2) (7 + if_numbered given.now.number 1) calls.old calls.new }
 {
     let said = Said::Cancel(given.word);
-    let seen = see_feedback(change, given, said)?;
+    let seen = see_feedback(calls, given, said)?;
     let report = seen.report;
     let action = match own_action(seen.misses_device, &seen.action) {
         Ok(action) => action,
@@ -197,22 +198,19 @@ pub(crate) fn take_cancel_feedback<S: Alter>(
         Ok(after) => after,
         Err(refusal) => return Ok(Step::Refused(refusal)),
     };
-    write_feedback(alloc, change, &action, &after, report.numbers, given, said)?;
+    write_feedback(alloc, calls, &action, &after, report.numbers, given, said)?;
     Ok(Step::Accepted(Reply::Done))
 }
 
 /// Cancels an action. A second cancel by force ends it.
-pub(crate) fn cancel_action<S: Alter>(
-    change: &mut OpenChange<'_, S>,
-    asked: &Cancel,
-) -> Result<Step, Fault>
-    ensures stays { StaysIn S.Store change.old change.new result }
+pub(crate) fn cancel_action<S: Alter>(calls: &mut Calls<S>, asked: &Cancel) -> Result<Step, Fault>
+    ensures stays { StaysIn S.Store calls.old calls.new result }
     ensures steps { IsWellFormed (CancelCommand asked.now.target asked.now.action asked.now.force)
-        → StepsIn S.Store change.old change.new (CancelCommand asked.now.target asked.now.action asked.now.force) result }
-    ensures fails { IsWellFormed (CancelCommand asked.now.target asked.now.action asked.now.force) → FailsStepIn S.Store change.old change.new result }
-    ensures work { RunsIn 12 change.old change.new }
+        → StepsIn S.Store calls.old calls.new (CancelCommand asked.now.target asked.now.action asked.now.force) result }
+    ensures fails { IsWellFormed (CancelCommand asked.now.target asked.now.action asked.now.force) → FailsStepIn S.Store calls.old calls.new result }
+    ensures work { RunsIn 12 calls.old calls.new }
 {
-    let found = see_target(change, &asked.target, asked.action)?;
+    let found = see_target(calls, &asked.target, asked.action)?;
     let Some(seen) = found else {
         return Ok(Step::Refused(Refusal::NotFound));
     };
@@ -220,6 +218,6 @@ pub(crate) fn cancel_action<S: Alter>(
         Ok(after) => after,
         Err(refusal) => return Ok(Step::Refused(refusal)),
     };
-    act(change, &seen, &after, &None)?;
+    act(calls, &seen, &after, &None)?;
     Ok(Step::Accepted(Reply::Done))
 }

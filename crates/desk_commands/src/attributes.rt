@@ -15,7 +15,9 @@ ghost use Rattle.desk_store.specs.Failing.{WritesIn};
 use crate::step::Step;
 use campaign_core::AttributesView;
 use desk_reads::knows_device;
-use desk_store::{Fault, OpenChange};
+use desk_store::{
+    Calls, Fault, change_target_attribute, read_target_attributes, write_target_attribute,
+};
 use rollout_model::{Attribute, ConfigData, ControllerId, Credential, Reply, Word};
 use sqlite::Alter;
 
@@ -68,52 +70,52 @@ fn view_of(known: bool, given: &[Attribute], had: &[Attribute]) -> AttributesVie
 
 /// Gives a target an attribute, where it had these and was given others since.
 fn give_attribute<S: Alter>(
-    change: &mut OpenChange<'_, S>,
+    calls: &mut Calls<S>,
     id: &ControllerId,
     attribute: &Attribute,
     had: &[Attribute],
     since: &[Attribute],
 ) -> Result<(), Fault>
-    ensures stays { WritesIn S.Store change.old change.new result }
-    ensures writes { MakesIn S.Store change.old change.new result (GivesAttribute id.now had.now since.now attribute.now) }
+    ensures stays { WritesIn S.Store calls.old calls.new result }
+    ensures writes { MakesIn S.Store calls.old calls.new result (GivesAttribute id.now had.now since.now attribute.now) }
 {
     if !has_key_since(had, since, &attribute.key) {
-        return change.write_target_attribute(id, attribute);
+        return write_target_attribute(calls, id, attribute);
     }
     if keeps(had, since, attribute) {
         return Ok(());
     }
-    change.change_target_attribute(id, attribute)
+    change_target_attribute(calls, id, attribute)
 }
 
 /// Gives a target that had these attributes others, one after the other.
 fn give_attributes<S: Alter>(
-    change: &mut OpenChange<'_, S>,
+    calls: &mut Calls<S>,
     id: &ControllerId,
     given: &[Attribute],
     had: &[Attribute],
 ) -> Result<(), Fault>
-    ensures stays { WritesIn S.Store change.old change.new result }
-    ensures writes { MakesIn S.Store change.old change.new result (GivesAttributes id.now had.now given.now) }
+    ensures stays { WritesIn S.Store calls.old calls.new result }
+    ensures writes { MakesIn S.Store calls.old calls.new result (GivesAttributes id.now had.now given.now) }
 {
     for (i, attribute) in given.iter().enumerate() {
-        give_attribute(change, id, attribute, had, &given[..i])?;
+        give_attribute(calls, id, attribute, had, &given[..i])?;
     }
     Ok(())
 }
 
 /// Gives the device's target new values of attributes. Those that it names no key of stay. Takes at most 32 keys in all.
 pub(crate) fn put_attributes<S: Alter>(
-    change: &mut OpenChange<'_, S>,
+    calls: &mut Calls<S>,
     device: &Credential,
     given: &ConfigData,
 ) -> Result<Step, Fault>
-    ensures stays { StaysIn S.Store change.old change.new result }
-    ensures steps { StepsIn S.Store change.old change.new (PutAttributes device.now given.now) result }
-    ensures fails { FailsStepIn S.Store change.old change.new result }
+    ensures stays { StaysIn S.Store calls.old calls.new result }
+    ensures steps { StepsIn S.Store calls.old calls.new (PutAttributes device.now given.now) result }
+    ensures fails { FailsStepIn S.Store calls.old calls.new result }
 {
-    let known = knows_device(change, device)?;
-    let attributes = change.read_target_attributes(&device.id)?;
+    let known = knows_device(calls, device)?;
+    let attributes = read_target_attributes(calls, &device.id)?;
     let had = attributes.as_slice();
     let given = given.as_slice();
     let view = view_of(known, given, had);
@@ -121,6 +123,6 @@ pub(crate) fn put_attributes<S: Alter>(
         Ok(()) => {}
         Err(refusal) => return Ok(Step::Refused(refusal)),
     }
-    give_attributes(change, &device.id, given, had)?;
+    give_attributes(calls, &device.id, given, had)?;
     Ok(Step::Accepted(Reply::Done))
 }

@@ -19,7 +19,7 @@ use crate::starting::start_rollout;
 use crate::step::Step;
 use crate::tags::{tag_target, untag_target};
 use crate::targets::put_targets;
-use desk_store::{Fault, OpenChange};
+use desk_store::{Calls, Fault};
 use rollout_machine::command_is_well_formed;
 use rollout_model::Command;
 use sqlite::Alter;
@@ -28,33 +28,33 @@ use std::alloc::Global;
 /// Runs a command inside a change.
 pub fn take_step<S: Alter>(
     alloc: Global,
-    change: &mut OpenChange<'_, S>,
+    calls: &mut Calls<S>,
     command: &Command,
 ) -> Result<Step, Fault>
-    ensures stays { StaysIn S.Store change.old change.new result }
-    ensures steps { StepsIn S.Store change.old change.new (command_of command.now) result }
-    ensures fails { FailsStepIn S.Store change.old change.new result }
-    ensures work { AddsWithin (command_of command.now) change.old.store.now.calls.work change.new.store.now.calls.work }
+    ensures stays { StaysIn S.Store calls.old calls.new result }
+    ensures steps { StepsIn S.Store calls.old calls.new (command_of command.now) result }
+    ensures fails { FailsStepIn S.Store calls.old calls.new result }
+    ensures work { AddsWithin (command_of command.now) calls.old.work calls.new.work }
     ensures formed { IsWellFormed (command_of command.now) }
 {
     command_is_well_formed(command);
     match command {
-        Command::AddModule(label) => add_module(alloc, change, label),
-        Command::AddArtifact(upload) => add_artifact(change, upload),
-        Command::AddSet(label) => add_set(alloc, change, label),
-        Command::PutTargets(rows) => put_targets(change, rows),
-        Command::Tag(id, tag) => tag_target(change, id, tag),
-        Command::Untag(id, tag) => untag_target(change, id, tag),
-        Command::PutAttributes(device, given) => put_attributes(change, device, given),
-        Command::CreateRollout(plan) => create_rollout(alloc, change, plan),
-        Command::Approve(number) => say(change, *number, Said::Approved),
-        Command::Deny(number) => say(change, *number, Said::Denied),
-        Command::Start(number) => start_rollout(change, *number),
-        Command::Pause(number) => say(change, *number, Said::Paused),
-        Command::Resume(number) => go_on(change, *number, Going::Resumed),
-        Command::TriggerNext(number) => go_on(change, *number, Going::Triggered),
-        Command::Cancel(asked) => cancel_action(change, asked),
-        Command::Feedback(feedback) => take_feedback(alloc, change, feedback),
-        Command::CancelFeedback(feedback) => take_cancel_feedback(alloc, change, feedback),
+        Command::AddModule(label) => add_module(alloc, calls, label),
+        Command::AddArtifact(upload) => add_artifact(calls, upload),
+        Command::AddSet(label) => add_set(alloc, calls, label),
+        Command::PutTargets(rows) => put_targets(calls, rows),
+        Command::Tag(id, tag) => tag_target(calls, id, tag),
+        Command::Untag(id, tag) => untag_target(calls, id, tag),
+        Command::PutAttributes(device, given) => put_attributes(calls, device, given),
+        Command::CreateRollout(plan) => create_rollout(alloc, calls, plan),
+        Command::Approve(number) => say(calls, *number, Said::Approved),
+        Command::Deny(number) => say(calls, *number, Said::Denied),
+        Command::Start(number) => start_rollout(calls, *number),
+        Command::Pause(number) => say(calls, *number, Said::Paused),
+        Command::Resume(number) => go_on(calls, *number, Going::Resumed),
+        Command::TriggerNext(number) => go_on(calls, *number, Going::Triggered),
+        Command::Cancel(asked) => cancel_action(calls, asked),
+        Command::Feedback(feedback) => take_feedback(alloc, calls, feedback),
+        Command::CancelFeedback(feedback) => take_cancel_feedback(alloc, calls, feedback),
     }
 }

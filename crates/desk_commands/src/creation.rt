@@ -18,7 +18,10 @@ ghost use Rattle.desk_store.specs.Failing.{WritesIn};
 use crate::step::Step;
 use campaign_core::{NewRollout, PlanView, cut_grouping, new_rollout};
 use desk_reads::read_matching;
-use desk_store::{Fault, OpenChange};
+use desk_store::{
+    Calls, Fault, read_approval, read_last_rollout, read_last_set, read_same_rollout, write_group,
+    write_member, write_rollout, write_rule, write_sixteen_members,
+};
 use rollout_machine::Bounds;
 use rollout_model::{
     Approval, ControllerId, FilterText, Reply, Rollout, RolloutNo, RolloutPlan, RolloutWord,
@@ -37,14 +40,10 @@ pub(crate) struct Chosen {
 }
 
 /// The targets that the filter of a text chooses.
-fn choose<S: Alter>(
-    alloc: Global,
-    change: &mut OpenChange<'_, S>,
-    text: &FilterText,
-) -> Result<Chosen, Fault>
-    ensures stays { StaysIn S.Store change.old change.new result }
-    ensures reads { FindsIn S.Store change.old change.new result (IsChosen text.now) }
-    ensures fails { FailsAtListsIn S.Store change.old change.new result }
+fn choose<S: Alter>(alloc: Global, calls: &mut Calls<S>, text: &FilterText) -> Result<Chosen, Fault>
+    ensures stays { StaysIn S.Store calls.old calls.new result }
+    ensures reads { FindsIn S.Store calls.old calls.new result (IsChosen text.now) }
+    ensures fails { FailsAtListsIn S.Store calls.old calls.new result }
 {
     let words = text.as_str();
     let filter = match Filter::read(alloc, words) {
@@ -58,7 +57,7 @@ fn choose<S: Alter>(
         }
     };
     laws::computed_filter();
-    let members = read_matching(change, &filter)?;
+    let members = read_matching(calls, &filter)?;
     Ok(Chosen {
         bad_filter: false,
         members,
@@ -67,21 +66,21 @@ fn choose<S: Alter>(
 
 /// What the verdict on a plan rests on.
 fn read_view<S: Alter>(
-    change: &mut OpenChange<'_, S>,
+    calls: &mut Calls<S>,
     plan: &RolloutPlan,
     chosen: &Chosen,
     members: u32,
 ) -> Result<PlanView, Fault>
     requires { members ≡ length chosen.now.members.items }
-    ensures stays { StaysIn S.Store change.old change.new result }
+    ensures stays { StaysIn S.Store calls.old calls.new result }
     ensures members { IfOk result (λ view. view.members ≡ members) }
-    ensures reads { FindsIn S.Store change.old change.new result (λ r view. IsChosen plan.now.filter_text r chosen.now → IsPlanView view plan.now r) }
-    ensures fails { FailsAtListsIn S.Store change.old change.new result }
+    ensures reads { FindsIn S.Store calls.old calls.new result (λ r view. IsChosen plan.now.filter_text r chosen.now → IsPlanView view plan.now r) }
+    ensures fails { FailsAtListsIn S.Store calls.old calls.new result }
 {
-    let last_set = change.read_last_set()?;
-    let same_name = change.read_same_rollout(&plan.name)?;
-    let count = change.read_last_rollout()?;
-    let approval = change.read_approval()?;
+    let last_set = read_last_set(calls)?;
+    let same_name = read_same_rollout(calls, &plan.name)?;
+    let count = read_last_rollout(calls)?;
+    let approval = read_approval(calls)?;
     Ok(PlanView {
         bad_filter: chosen.bad_filter,
         misses_set: plan.set_number.get() > last_set,
@@ -127,29 +126,29 @@ fn show_new(
 
 /// Writes the members of a rollout that has none, sixteen by a statement, and those that are left behind them by one each.
 fn write_members<S: Alter>(
-    change: &mut OpenChange<'_, S>,
+    calls: &mut Calls<S>,
     number: RolloutNo,
     members: &[ControllerId],
 ) -> Result<(), Fault>
     requires few { length members.now ≤ 4294967295 }
-    ensures stays { WritesIn S.Store change.old change.new result }
-    ensures writes { MakesLedger S.Store change.old change.new result (AddsMembers number 1 members.now) }
-    ensures work { AddsIn (length members.now / 16 + length members.now % 16) 0 change.old change.new }
+    ensures stays { WritesIn S.Store calls.old calls.new result }
+    ensures writes { MakesLedger S.Store calls.old calls.new result (AddsMembers number 1 members.now) }
+    ensures work { AddsIn (length members.now / 16 + length members.now % 16) 0 calls.old calls.new }
 {
     let (sixteens, rest) = members.as_chunks::<16>();
     for (i, ids) in sixteens.iter().enumerate() {
-        change.write_sixteen_members(number, i as u32 * 16 + 1, ids)?;
+        write_sixteen_members(calls, number, i as u32 * 16 + 1, ids)?;
     }
     let before = sixteens.len() * 16;
     for (i, id) in rest.iter().enumerate() {
-        change.write_member(number, (before + i) as u32 + 1, id)?;
+        write_member(calls, number, (before + i) as u32 + 1, id)?;
     }
     Ok(())
 }
 
 /// Writes a rollout with its groups, which have these bounds, with what is said of them, and with its members.
 fn write_whole<S: Alter>(
-    change: &mut OpenChange<'_, S>,
+    calls: &mut Calls<S>,
     plan: &RolloutPlan,
     created: &NewRollout,
     cuts: &[Bounds],
@@ -157,21 +156,21 @@ fn write_whole<S: Alter>(
 ) -> Result<(), Fault>
     requires cut { cuts.now ≡ cut_by plan.now.groups (length members.now) }
     requires few { length members.now ≤ 4294967295 }
-    ensures stays { WritesIn S.Store change.old change.new result }
-    ensures writes { MakesLedger S.Store change.old change.new result
+    ensures stays { WritesIn S.Store calls.old calls.new result }
+    ensures writes { MakesLedger S.Store calls.old calls.new result
         (CreatesRollout (in_part created.now plan.now (length members.now) plan.now.groups.count members.now) (rules_of plan.now)) }
-    ensures work { AddsIn (1 + plan.now.groups.count * 2 + (length members.now / 16 + length members.now % 16)) 0 change.old change.new }
+    ensures work { AddsIn (1 + plan.now.groups.count * 2 + (length members.now / 16 + length members.now % 16)) 0 calls.old calls.new }
 {
     let number = created.number;
     let groups = plan.groups.count().get();
-    change.write_rollout(number, plan, created.approval)?;
+    write_rollout(calls, number, plan, created.approval)?;
     for i in 0..groups {
         let group = i + 1;
         let bounds = cuts[i as usize];
-        change.write_group(number, group, bounds)?;
-        change.write_rule(number, group, &plan.group_rule(group))?;
+        write_group(calls, number, group, bounds)?;
+        write_rule(calls, number.get(), group, &plan.group_rule(group))?;
     }
-    write_members(change, number, members)
+    write_members(calls, number, members)
 }
 
 /// How many members there are, where a reply can tell it: up to 4,294,967,295.
@@ -185,24 +184,24 @@ fn count_of(members: &[ControllerId]) -> Option<u32>
 /// anything is written.
 pub(crate) fn create_rollout<S: Alter>(
     alloc: Global,
-    change: &mut OpenChange<'_, S>,
+    calls: &mut Calls<S>,
     plan: &RolloutPlan,
 ) -> Result<Step, Fault>
-    ensures stays { StaysIn S.Store change.old change.new result }
-    ensures steps { StepsIn S.Store change.old change.new (CreateRollout plan.now) result }
-    ensures fails { FailsStepIn S.Store change.old change.new result }
+    ensures stays { StaysIn S.Store calls.old calls.new result }
+    ensures steps { StepsIn S.Store calls.old calls.new (CreateRollout plan.now) result }
+    ensures fails { FailsStepIn S.Store calls.old calls.new result }
 {
-    let chosen = choose(alloc, change, &plan.filter_text)?;
+    let chosen = choose(alloc, calls, &plan.filter_text)?;
     let Some(count) = count_of(&chosen.members) else {
         return Err(Fault::Memory);
     };
-    let view = read_view(change, plan, &chosen, count)?;
+    let view = read_view(calls, plan, &chosen, count)?;
     let created = match new_rollout(&view, &plan.groups) {
         Ok(created) => created,
         Err(refusal) => return Ok(Step::Refused(refusal)),
     };
     let shown = show_new(alloc, plan, &created, count)?;
     let cuts = cut_grouping(alloc, count, &plan.groups)?;
-    write_whole(change, plan, &created, &cuts, &chosen.members)?;
+    write_whole(calls, plan, &created, &cuts, &chosen.members)?;
     Ok(Step::Accepted(Reply::RolloutAdded(shown)))
 }

@@ -12,7 +12,7 @@ use crate::counts::one_more;
 use crate::groups::start_if;
 use crate::seen_actions::SeenAction;
 use campaign_core::{ActionChange, Following};
-use desk_store::{Fault, OpenChange};
+use desk_store::{Calls, Fault, change_group, change_rollout};
 use rollout_machine::{GroupRecord, Outcome};
 use sqlite::Alter;
 
@@ -52,41 +52,55 @@ pub(crate) fn own_after(seen: &SeenAction, after: &ActionChange) -> Result<Group
 
 /// Writes what follows an outcome beside its count: a pause of the rollout, or the start of its next group, which then waits.
 fn write_following<S: Alter>(
-    change: &mut OpenChange<'_, S>,
+    calls: &mut Calls<S>,
     seen: &SeenAction,
     following: Following,
 ) -> Result<(), Fault>
-    ensures stays { WritesIn S.Store change.old change.new result }
-    ensures writes { MakesLedger S.Store change.old change.new result (FollowsSo seen.now following) }
-    ensures work { AddsIn 2 0 change.old change.new }
+    ensures stays { WritesIn S.Store calls.old calls.new result }
+    ensures writes { MakesLedger S.Store calls.old calls.new result (FollowsSo seen.now following) }
+    ensures work { AddsIn 2 0 calls.old calls.new }
 {
     match following {
         Following::Nothing => Ok(()),
         Following::Pauses => {
-            change.change_rollout(seen.action.rollout, seen.approval, seen.started, true)
+            change_rollout(
+                calls,
+                seen.action.rollout,
+                seen.approval,
+                seen.started,
+                true,
+            )
         }
-        Following::StartsNext => start_if(change, seen.action.rollout, &seen.next),
+        Following::StartsNext => start_if(calls, seen.action.rollout, &seen.next),
     }
 }
 
 /// Writes what follows from what became of an action, whose group counts so much then.
 pub(crate) fn follow<S: Alter>(
-    change: &mut OpenChange<'_, S>,
+    calls: &mut Calls<S>,
     seen: &SeenAction,
     after: &ActionChange,
     own: &GroupRecord,
 ) -> Result<(), Fault>
-    ensures stays { WritesIn S.Store change.old change.new result }
+    ensures stays { WritesIn S.Store calls.old calls.new result }
     ensures writes { own.now ≡ own_after seen.now after.now
-        → MakesLedger S.Store change.old change.new result (FollowsChange seen.now after.now) }
-    ensures work { AddsIn 3 0 change.old change.new }
+        → MakesLedger S.Store calls.old calls.new result (FollowsChange seen.now after.now) }
+    ensures work { AddsIn 3 0 calls.old calls.new }
 {
     match after {
         ActionChange::StaysOpen { .. } => Ok(()),
         ActionChange::Ends(ending) => {
             let rollout = seen.action.rollout;
-            change.change_group(rollout, own.number, own.started, own.ok, own.bad, own.gone)?;
-            write_following(change, seen, ending.following)
+            change_group(
+                calls,
+                rollout,
+                own.number,
+                own.started,
+                own.ok,
+                own.bad,
+                own.gone,
+            )?;
+            write_following(calls, seen, ending.following)
         }
     }
 }

@@ -5,37 +5,45 @@ ghost use Rattle.desk_commands.specs.private.GroupStarts.{StartsAndOffers, Start
 ghost use Rattle.desk_store.specs.Changing.{MakesLedger};
 ghost use Rattle.desk_store.specs.Failing.{WritesIn};
 
-use desk_store::{Fault, OpenChange};
+use desk_store::{Calls, Fault, change_group, write_group_offers};
 use rollout_machine::GroupRecord;
 use rollout_model::RolloutNo;
 use sqlite::Alter;
 
 /// Starts a group that waits: each of its targets is offered its action there, unless it is offered a lesser one.
 pub(crate) fn start_group<S: Alter>(
-    change: &mut OpenChange<'_, S>,
+    calls: &mut Calls<S>,
     number: RolloutNo,
     group: &GroupRecord,
 ) -> Result<(), Fault>
-    ensures stays { WritesIn S.Store change.old change.new result }
-    ensures writes { MakesLedger S.Store change.old change.new result (StartsAndOffers number group.now) }
-    ensures work { AddsIn 2 0 change.old change.new }
+    ensures stays { WritesIn S.Store calls.old calls.new result }
+    ensures writes { MakesLedger S.Store calls.old calls.new result (StartsAndOffers number group.now) }
+    ensures work { AddsIn 2 0 calls.old calls.new }
 {
-    change.change_group(number, group.number, true, group.ok, group.bad, group.gone)?;
-    change.write_group_offers(number, group.bounds)
+    change_group(
+        calls,
+        number,
+        group.number,
+        true,
+        group.ok,
+        group.bad,
+        group.gone,
+    )?;
+    write_group_offers(calls, number, group.bounds)
 }
 
 /// Starts a group, if one is to start.
 pub(crate) fn start_if<S: Alter>(
-    change: &mut OpenChange<'_, S>,
+    calls: &mut Calls<S>,
     number: RolloutNo,
     group: &Option<GroupRecord>,
 ) -> Result<(), Fault>
-    ensures stays { WritesIn S.Store change.old change.new result }
-    ensures writes { MakesLedger S.Store change.old change.new result (StartsIf number group.now) }
-    ensures work { AddsIn 2 0 change.old change.new }
+    ensures stays { WritesIn S.Store calls.old calls.new result }
+    ensures writes { MakesLedger S.Store calls.old calls.new result (StartsIf number group.now) }
+    ensures work { AddsIn 2 0 calls.old calls.new }
 {
     match group {
-        Some(group) => start_group(change, number, group),
+        Some(group) => start_group(calls, number, group),
         None => Ok(()),
     }
 }

@@ -21,7 +21,7 @@ use crate::standing::refusal_in;
 use crate::step::Step;
 use campaign_core::{ResumeView, TriggerView, after_resume, after_trigger, resume, trigger};
 use desk_reads::{SeenRollout, read_seen_rollout};
-use desk_store::{Fault, OpenChange};
+use desk_store::{Calls, Fault, change_rollout, read_rule};
 use rollout_machine::{GroupRecord, RolloutView};
 use rollout_model::{GroupRule, Refusal, Reply, RolloutNo};
 use sqlite::Alter;
@@ -69,38 +69,38 @@ fn group_at(groups: &[GroupRecord], number: u32) -> Option<GroupRecord>
 
 /// What is said of the last started group of a rollout, which has this number, or 0 where none is started.
 fn read_last_rule<S: Alter>(
-    change: &mut OpenChange<'_, S>,
+    calls: &mut Calls<S>,
     number: RolloutNo,
     seen: &SeenRollout,
     last: u32,
 ) -> Result<GroupRule, Fault>
-    ensures stays { StaysIn S.Store change.old change.new result }
-    ensures reads { FindsIn S.Store change.old change.new result
+    ensures stays { StaysIn S.Store calls.old calls.new result }
+    ensures reads { FindsIn S.Store calls.old calls.new result
         (λ r rule. (x : RolloutRecord) → item_numbered r.rollouts number ≡ Some x → IsSeenOf seen.now x → rule ≡ rule_at x.plan last) }
-    ensures fails { FailsGiven S.Store (IsSeenFrom number seen.now last) change.old change.new result }
-    ensures work { RunsIn 1 change.old change.new }
+    ensures fails { FailsGiven S.Store (IsSeenFrom number seen.now last) calls.old calls.new result }
+    ensures work { RunsIn 1 calls.old calls.new }
 {
     if last == 0 {
         return Ok(GroupRule::evenly(seen.plan.success, seen.plan.error));
     }
-    let rule = change.read_rule(number, last)?.ok_or(Fault::Broken)?;
+    let rule = read_rule(calls, number, last)?.ok_or(Fault::Broken)?;
     Ok(rule)
 }
 
 /// A rollout, seen from its last started group.
 fn read_view<S: Alter>(
-    change: &mut OpenChange<'_, S>,
+    calls: &mut Calls<S>,
     number: RolloutNo,
     seen: &SeenRollout,
 ) -> Result<RolloutView, Fault>
-    ensures stays { StaysIn S.Store change.old change.new result }
-    ensures reads { FindsAtListsIn S.Store change.old change.new result
+    ensures stays { StaysIn S.Store calls.old calls.new result }
+    ensures reads { FindsAtListsIn S.Store calls.old calls.new result
         (λ now view. (x : RolloutRecord) → item_numbered now.rollouts number ≡ Some x → IsSeenOf seen.now x → view ≡ view_of x (last_started x.groups)) }
-    ensures fails { FailsGiven S.Store (IsSeenIn number seen.now) change.old change.new result }
-    ensures work { RunsIn 1 change.old change.new }
+    ensures fails { FailsGiven S.Store (IsSeenIn number seen.now) calls.old calls.new result }
+    ensures work { RunsIn 1 calls.old calls.new }
 {
     let started = last_started(&seen.groups);
-    let rule = read_last_rule(change, number, seen, started)?;
+    let rule = read_last_rule(calls, number, seen, started)?;
     let last = group_view(&rule, started, group_at(&seen.groups, started))?;
     Ok(RolloutView {
         paused: seen.paused,
@@ -170,41 +170,41 @@ fn pause_of(going: Going, paused: bool) -> bool
 
 /// Writes whether a rollout is paused, and starts a group of it, if one is to start.
 fn write_going<S: Alter>(
-    change: &mut OpenChange<'_, S>,
+    calls: &mut Calls<S>,
     number: RolloutNo,
     seen: &SeenRollout,
     paused: bool,
     group: &Option<GroupRecord>,
 ) -> Result<(), Fault>
-    ensures stays { WritesIn S.Store change.old change.new result }
-    ensures writes { MakesLedger S.Store change.old change.new result (GoesOn number seen.now paused group.now) }
-    ensures work { RunsIn 3 change.old change.new }
+    ensures stays { WritesIn S.Store calls.old calls.new result }
+    ensures writes { MakesLedger S.Store calls.old calls.new result (GoesOn number seen.now paused group.now) }
+    ensures work { RunsIn 3 calls.old calls.new }
 {
-    change.change_rollout(number, seen.approval, seen.started, paused)?;
-    start_if(change, number, group)
+    change_rollout(calls, number, seen.approval, seen.started, paused)?;
+    start_if(calls, number, group)
 }
 
 /// Lets a rollout go on, where it can.
 pub(crate) fn go_on<S: Alter>(
-    change: &mut OpenChange<'_, S>,
+    calls: &mut Calls<S>,
     number: RolloutNo,
     going: Going,
 ) -> Result<Step, Fault>
-    ensures stays { StaysIn S.Store change.old change.new result }
-    ensures steps { StepsIn S.Store change.old change.new (gone_by going number) result }
-    ensures fails { FailsStepIn S.Store change.old change.new result }
-    ensures work { RunsIn 6 change.old change.new }
+    ensures stays { StaysIn S.Store calls.old calls.new result }
+    ensures steps { StepsIn S.Store calls.old calls.new (gone_by going number) result }
+    ensures fails { FailsStepIn S.Store calls.old calls.new result }
+    ensures work { RunsIn 6 calls.old calls.new }
 {
-    let found = read_seen_rollout(change, number)?;
+    let found = read_seen_rollout(calls, number)?;
     let Some(seen) = found else {
         return Ok(Step::Refused(Refusal::NotFound));
     };
-    let rollout = read_view(change, number, &seen)?;
+    let rollout = read_view(calls, number, &seen)?;
     if let Some(refusal) = refusal_of(going, &seen, rollout) {
         return Ok(Step::Refused(refusal));
     }
     let paused = pause_of(going, seen.paused);
     let group = group_if(&seen.groups, start_of(going, &rollout))?;
-    write_going(change, number, &seen, paused, &group)?;
+    write_going(calls, number, &seen, paused, &group)?;
     Ok(Step::Accepted(Reply::Done))
 }

@@ -11,7 +11,7 @@ ghost use Rattle.desk_store.specs.Counting.{AddsIn};
 ghost use Rattle.desk_store.specs.Changing.{StaysIn};
 
 use crate::seen_actions::SeenAction;
-use desk_store::{Fault, OpenChange, PlacedNumber};
+use desk_store::{Calls, Fault, PlacedNumber, read_entry, read_last_number};
 use rollout_machine::Standing;
 use rollout_model::{
     CancelWord, DeploymentWord, Details, DeviceFeedback, FeedbackNumber, HistoryEntry, NoteWord,
@@ -82,18 +82,18 @@ fn same_entry(entry: &HistoryEntry, said: Said, details: &Details) -> bool
 /// How a report of this number stands where the action's last number is this one. The entry that bears it is read only where both are
 /// the same. Where it isn't there the store failed.
 fn stand_against<S: Alter, W: Copy>(
-    change: &mut OpenChange<'_, S>,
+    calls: &mut Calls<S>,
     last: &PlacedNumber,
     given: &DeviceFeedback<W>,
     said: Said,
     number: FeedbackNumber,
 ) -> Result<Standing, Fault>
-    ensures stays { StaysIn S.Store change.old change.new result }
-    ensures reads { FindsAtListsIn S.Store change.old change.new result
+    ensures stays { StaysIn S.Store calls.old calls.new result }
+    ensures reads { FindsAtListsIn S.Store calls.old calls.new result
         (StandsAgainst given.now.action last.now number (reported (λ word. said) given.now).entry) }
     ensures apart { StandsApart last.now.number number result }
-    ensures fails { FailsGiven S.Store (IsLastOf given.now.action last.now) change.old change.new result }
-    ensures work { AddsIn (more_reads (standing_in (λ it. it) result)) (more_reads (standing_in (λ it. it) result)) change.old change.new }
+    ensures fails { FailsGiven S.Store (IsLastOf given.now.action last.now) calls.old calls.new result }
+    ensures work { AddsIn (more_reads (standing_in (λ it. it) result)) (more_reads (standing_in (λ it. it) result)) calls.old calls.new }
 {
     if last.number.get() < number.get() {
         return Ok(Standing::Fresh);
@@ -101,9 +101,7 @@ fn stand_against<S: Alter, W: Copy>(
     if last.number.get() > number.get() {
         return Ok(Standing::Old);
     }
-    let entry = change
-        .read_entry(given.action, last.sequence)?
-        .ok_or(Fault::Broken)?;
+    let entry = read_entry(calls, given.action, last.sequence)?.ok_or(Fault::Broken)?;
     if same_entry(&entry, said, &given.details) {
         Ok(Standing::Again)
     } else {
@@ -113,22 +111,22 @@ fn stand_against<S: Alter, W: Copy>(
 
 /// How a report of this number stands among what its action has heard.
 fn see_numbered<S: Alter, W: Copy>(
-    change: &mut OpenChange<'_, S>,
+    calls: &mut Calls<S>,
     given: &DeviceFeedback<W>,
     said: Said,
     number: FeedbackNumber,
 ) -> Result<SeenReport, Fault>
-    ensures stays { StaysIn S.Store change.old change.new result }
-    ensures reads { FindsAtListsIn S.Store change.old change.new result
+    ensures stays { StaysIn S.Store calls.old calls.new result }
+    ensures reads { FindsAtListsIn S.Store calls.old calls.new result
         (StandsAt given.now.action (with_number (reported (λ word. said) given.now) (Some number))) }
-    ensures fails { FailsAtListsIn S.Store change.old change.new result }
+    ensures fails { FailsAtListsIn S.Store calls.old calls.new result }
     ensures work { AddsIn (1 + more_reads (standing_in (λ seen. seen.standing) result))
-        (1 + more_reads (standing_in (λ seen. seen.standing) result)) change.old change.new }
+        (1 + more_reads (standing_in (λ seen. seen.standing) result)) calls.old calls.new }
 {
-    let found = change.read_last_number(given.action)?;
+    let found = read_last_number(calls, given.action)?;
     match &found {
         Some(last) => {
-            let standing = stand_against(change, &last.it, given, said, number)?;
+            let standing = stand_against(calls, &last.it, given, said, number)?;
             Ok(SeenReport {
                 standing,
                 numbers: last.place,
@@ -162,20 +160,20 @@ fn number_asked(
 
 /// How a report stands among what its action has heard, where that is open. On another action nothing asks for it.
 pub(crate) fn see_report<S: Alter, W: Copy>(
-    change: &mut OpenChange<'_, S>,
+    calls: &mut Calls<S>,
     action: &Option<SeenAction>,
     given: &DeviceFeedback<W>,
     said: Said,
 ) -> Result<SeenReport, Fault>
-    ensures stays { StaysIn S.Store change.old change.new result }
-    ensures reads { FindsAtListsIn S.Store change.old change.new result
+    ensures stays { StaysIn S.Store calls.old calls.new result }
+    ensures reads { FindsAtListsIn S.Store calls.old calls.new result
         (StandsAt given.now.action (asked action.now (reported (λ word. said) given.now))) }
-    ensures fails { FailsAtListsIn S.Store change.old change.new result }
+    ensures fails { FailsAtListsIn S.Store calls.old calls.new result }
     ensures work { AddsIn (reads_for given.now.number (standing_in (λ seen. seen.standing) result))
-        (reads_for given.now.number (standing_in (λ seen. seen.standing) result)) change.old change.new }
+        (reads_for given.now.number (standing_in (λ seen. seen.standing) result)) calls.old calls.new }
 {
     match number_asked(action, given.number) {
-        Some(number) => see_numbered(change, given, said, number),
+        Some(number) => see_numbered(calls, given, said, number),
         None => Ok(SeenReport {
             standing: Standing::Fresh,
             numbers: 0,

@@ -19,7 +19,10 @@ use crate::reports::{SeenReport, see_report};
 use crate::tags::lacks_target;
 use campaign_core::{ActionView, CancelView, DeviceAction, OwnView};
 use desk_reads::knows_device;
-use desk_store::{Fault, OpenChange, StoredAction, StoredRollout};
+use desk_store::{
+    Calls, Fault, StoredAction, StoredRollout, read_action, read_group_and_next, read_rollout,
+    read_rule,
+};
 use rollout_machine::{GroupRecord, Standing};
 use rollout_model::{ActionNo, Approval, ControllerId, DeviceFeedback, GroupRule, Said};
 use sqlite::Alter;
@@ -83,21 +86,19 @@ fn own_view(
 
 /// An action with what its group and its rollout are. Where they aren't there the store failed.
 fn see_in<S: Alter>(
-    change: &mut OpenChange<'_, S>,
+    calls: &mut Calls<S>,
     number: ActionNo,
     action: &StoredAction,
 ) -> Result<SeenAction, Fault>
-    ensures stays { StaysIn S.Store change.old change.new result }
-    ensures reads { FindsLedger S.Store change.old change.new result (λ l seen. SeesIn l number action.now seen) }
-    ensures fails { FailsGiven S.Store (IsActionOf number action.now) change.old change.new result }
-    ensures work { AddsIn 3 4 change.old change.new }
+    ensures stays { StaysIn S.Store calls.old calls.new result }
+    ensures reads { FindsLedger S.Store calls.old calls.new result (λ l seen. SeesIn l number action.now seen) }
+    ensures fails { FailsGiven S.Store (IsActionOf number action.now) calls.old calls.new result }
+    ensures work { AddsIn 3 4 calls.old calls.new }
 {
-    let rollout = change.read_rollout(action.rollout)?.ok_or(Fault::Broken)?;
-    let found = change.read_group_and_next(action.rollout, action.position)?;
+    let rollout = read_rollout(calls, action.rollout.get())?.ok_or(Fault::Broken)?;
+    let found = read_group_and_next(calls, action.rollout, action.position)?;
     let own = found.group.ok_or(Fault::Broken)?;
-    let rule = change
-        .read_rule(action.rollout, own.number)?
-        .ok_or(Fault::Broken)?;
+    let rule = read_rule(calls, action.rollout, own.number)?.ok_or(Fault::Broken)?;
     let view = own_view(&rollout, &rule, &own, &found.next)?;
     Ok(SeenAction {
         number,
@@ -111,19 +112,16 @@ fn see_in<S: Alter>(
 }
 
 /// The action of a number.
-fn see_action<S: Alter>(
-    change: &mut OpenChange<'_, S>,
-    number: ActionNo,
-) -> Result<Option<SeenAction>, Fault>
-    ensures stays { StaysIn S.Store change.old change.new result }
-    ensures reads { FindsLedger S.Store change.old change.new result (MaySee number) }
-    ensures fails { FailsAtListsIn S.Store change.old change.new result }
-    ensures work { AddsIn 4 5 change.old change.new }
+fn see_action<S: Alter>(calls: &mut Calls<S>, number: ActionNo) -> Result<Option<SeenAction>, Fault>
+    ensures stays { StaysIn S.Store calls.old calls.new result }
+    ensures reads { FindsLedger S.Store calls.old calls.new result (MaySee number) }
+    ensures fails { FailsAtListsIn S.Store calls.old calls.new result }
+    ensures work { AddsIn 4 5 calls.old calls.new }
 {
-    let found = change.read_action(number)?;
+    let found = read_action(calls, number)?;
     match &found {
         Some(action) => {
-            let seen = see_in(change, number, action)?;
+            let seen = see_in(calls, number, action)?;
             Ok(Some(seen))
         }
         None => Ok(None),
@@ -158,22 +156,22 @@ fn only_started(seen: Option<SeenAction>) -> Option<SeenAction>
 
 /// Whether the device is known, the action that its feedback is on, and how it stands among what that has heard.
 pub(crate) fn see_feedback<S: Alter, W: Copy>(
-    change: &mut OpenChange<'_, S>,
+    calls: &mut Calls<S>,
     given: &DeviceFeedback<W>,
     said: Said,
 ) -> Result<SeenFeedback, Fault>
-    ensures stays { StaysIn S.Store change.old change.new result }
-    ensures reads { FindsIn S.Store change.old change.new result
+    ensures stays { StaysIn S.Store calls.old calls.new result }
+    ensures reads { FindsIn S.Store calls.old calls.new result
         (SeesFeedback given.now.credential given.now.action (reported (λ word. said) given.now)) }
-    ensures fails { FailsAtListsIn S.Store change.old change.new result }
+    ensures fails { FailsAtListsIn S.Store calls.old calls.new result }
     ensures work { AddsIn (5 + reads_for given.now.number (standing_in (λ seen. seen.report.standing) result))
-        (6 + reads_for given.now.number (standing_in (λ seen. seen.report.standing) result)) change.old change.new }
+        (6 + reads_for given.now.number (standing_in (λ seen. seen.report.standing) result)) calls.old calls.new }
 {
     let device = &given.credential;
-    let knows = knows_device(change, device)?;
-    let seen = see_action(change, given.action)?;
+    let knows = knows_device(calls, device)?;
+    let seen = see_action(calls, given.action)?;
     let action = only_started(only_of(&device.id, seen));
-    let report = see_report(change, &action, given, said)?;
+    let report = see_report(calls, &action, given, said)?;
     Ok(SeenFeedback {
         misses_device: !knows,
         action,
@@ -183,17 +181,17 @@ pub(crate) fn see_feedback<S: Alter, W: Copy>(
 
 /// The action that is to be canceled, where it is of a target that is there.
 pub(crate) fn see_target<S: Alter>(
-    change: &mut OpenChange<'_, S>,
+    calls: &mut Calls<S>,
     id: &ControllerId,
     number: ActionNo,
 ) -> Result<Option<SeenAction>, Fault>
-    ensures stays { StaysIn S.Store change.old change.new result }
-    ensures reads { FindsIn S.Store change.old change.new result (SeesTarget id.now number) }
-    ensures fails { FailsAtListsIn S.Store change.old change.new result }
-    ensures work { AddsIn 5 6 change.old change.new }
+    ensures stays { StaysIn S.Store calls.old calls.new result }
+    ensures reads { FindsIn S.Store calls.old calls.new result (SeesTarget id.now number) }
+    ensures fails { FailsAtListsIn S.Store calls.old calls.new result }
+    ensures work { AddsIn 5 6 calls.old calls.new }
 {
-    let lacks = lacks_target(change, id)?;
-    let seen = see_action(change, number)?;
+    let lacks = lacks_target(calls, id)?;
+    let seen = see_action(calls, number)?;
     if lacks {
         return Ok(None);
     }

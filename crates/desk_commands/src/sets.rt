@@ -15,7 +15,9 @@ ghost use Rattle.desk_store.specs.Failing.{WritesIn};
 
 use crate::step::Step;
 use campaign_core::SetView;
-use desk_store::{Fault, OpenChange};
+use desk_store::{
+    Calls, Fault, read_last_module, read_last_set, read_same_set, write_set, write_set_module,
+};
 use rollout_model::{DistributionSet, ModuleList, ModuleNo, Reply, SetLabel, SetNo};
 use sqlite::Alter;
 use std::alloc::Global;
@@ -29,29 +31,26 @@ fn any_past(modules: &ModuleList, last: u32) -> bool
 }
 
 /// Whether the list names a module that isn't there.
-fn lacks_a_module<S: Alter>(
-    change: &mut OpenChange<'_, S>,
-    modules: &ModuleList,
-) -> Result<bool, Fault>
-    ensures stays { StaysIn S.Store change.old change.new result }
-    ensures reads { FindsIn S.Store change.old change.new result (LacksModule modules.now) }
-    ensures fails { FailsAtListsIn S.Store change.old change.new result }
-    ensures work { RunsIn 1 change.old change.new }
+fn lacks_a_module<S: Alter>(calls: &mut Calls<S>, modules: &ModuleList) -> Result<bool, Fault>
+    ensures stays { StaysIn S.Store calls.old calls.new result }
+    ensures reads { FindsIn S.Store calls.old calls.new result (LacksModule modules.now) }
+    ensures fails { FailsAtListsIn S.Store calls.old calls.new result }
+    ensures work { RunsIn 1 calls.old calls.new }
 {
-    let last = change.read_last_module()?;
+    let last = read_last_module(calls)?;
     Ok(any_past(modules, last))
 }
 
 /// What the verdict on a set rests on.
-fn read_view<S: Alter>(change: &mut OpenChange<'_, S>, label: &SetLabel) -> Result<SetView, Fault>
-    ensures stays { StaysIn S.Store change.old change.new result }
-    ensures reads { FindsIn S.Store change.old change.new result (λ r view. IsSetView view label.now r) }
-    ensures fails { FailsAtListsIn S.Store change.old change.new result }
-    ensures work { RunsIn 3 change.old change.new }
+fn read_view<S: Alter>(calls: &mut Calls<S>, label: &SetLabel) -> Result<SetView, Fault>
+    ensures stays { StaysIn S.Store calls.old calls.new result }
+    ensures reads { FindsIn S.Store calls.old calls.new result (λ r view. IsSetView view label.now r) }
+    ensures fails { FailsAtListsIn S.Store calls.old calls.new result }
+    ensures work { RunsIn 3 calls.old calls.new }
 {
-    let misses_module = lacks_a_module(change, &label.modules)?;
-    let same = change.read_same_set(&label.name, &label.version)?;
-    let count = change.read_last_set()?;
+    let misses_module = lacks_a_module(calls, &label.modules)?;
+    let same = read_same_set(calls, &label.name, &label.version)?;
+    let count = read_last_set(calls)?;
     Ok(SetView {
         misses_module,
         same,
@@ -61,57 +60,53 @@ fn read_view<S: Alter>(change: &mut OpenChange<'_, S>, label: &SetLabel) -> Resu
 
 /// Adds these modules to the last set, which has so many before them.
 fn write_modules<S: Alter>(
-    change: &mut OpenChange<'_, S>,
+    calls: &mut Calls<S>,
     number: SetNo,
     before: u32,
     modules: &[ModuleNo],
 ) -> Result<(), Fault>
     requires { before + length modules.now ≤ 8 }
-    ensures stays { WritesIn S.Store change.old change.new result }
-    ensures writes { MakesIn S.Store change.old change.new result (AddsModules number before modules.now) }
-    ensures work { RunsIn (length modules.now) change.old change.new }
+    ensures stays { WritesIn S.Store calls.old calls.new result }
+    ensures writes { MakesIn S.Store calls.old calls.new result (AddsModules number before modules.now) }
+    ensures work { RunsIn (length modules.now) calls.old calls.new }
 {
     match modules {
         [] => Ok(()),
         [first, rest @ ..] => {
-            change.write_set_module(number, before + 1, *first)?;
-            write_modules(change, number, before + 1, rest)
+            write_set_module(calls, number, before + 1, *first)?;
+            write_modules(calls, number, before + 1, rest)
         }
     }
 }
 
 /// Writes a set with all its modules.
-fn write_whole<S: Alter>(
-    change: &mut OpenChange<'_, S>,
-    number: SetNo,
-    label: &SetLabel,
-) -> Result<(), Fault>
-    ensures stays { WritesIn S.Store change.old change.new result }
-    ensures writes { MakesIn S.Store change.old change.new result (AddsWhole number label.now) }
-    ensures work { RunsIn (1 + length label.now.modules) change.old change.new }
+fn write_whole<S: Alter>(calls: &mut Calls<S>, number: SetNo, label: &SetLabel) -> Result<(), Fault>
+    ensures stays { WritesIn S.Store calls.old calls.new result }
+    ensures writes { MakesIn S.Store calls.old calls.new result (AddsWhole number label.now) }
+    ensures work { RunsIn (1 + length label.now.modules) calls.old calls.new }
 {
-    change.write_set(number, &label.name, &label.version)?;
-    write_modules(change, number, 0, label.modules.as_slice())
+    write_set(calls, number, &label.name, &label.version)?;
+    write_modules(calls, number, 0, label.modules.as_slice())
 }
 
 /// Adds a distribution set. The memory of its reply is taken before anything is written.
 pub(crate) fn add_set<S: Alter>(
     alloc: Global,
-    change: &mut OpenChange<'_, S>,
+    calls: &mut Calls<S>,
     label: &SetLabel,
 ) -> Result<Step, Fault>
-    ensures stays { StaysIn S.Store change.old change.new result }
-    ensures steps { StepsIn S.Store change.old change.new (AddSet label.now) result }
-    ensures fails { FailsStepIn S.Store change.old change.new result }
-    ensures work { RunsIn (4 + length label.now.modules) change.old change.new }
+    ensures stays { StaysIn S.Store calls.old calls.new result }
+    ensures steps { StepsIn S.Store calls.old calls.new (AddSet label.now) result }
+    ensures fails { FailsStepIn S.Store calls.old calls.new result }
+    ensures work { RunsIn (4 + length label.now.modules) calls.old calls.new }
 {
-    let view = read_view(change, label)?;
+    let view = read_view(calls, label)?;
     let number = match campaign_core::add_set(&view) {
         Ok(added) => added.number,
         Err(refusal) => return Ok(Step::Refused(refusal)),
     };
     let shown = label.copy(alloc)?;
-    write_whole(change, number, label)?;
+    write_whole(calls, number, label)?;
     Ok(Step::Accepted(Reply::SetAdded(DistributionSet {
         number,
         label: shown,

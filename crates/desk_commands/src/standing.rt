@@ -11,7 +11,7 @@ ghost use Rattle.desk_store.specs.Failing.{WritesIn};
 use crate::step::Step;
 use campaign_core::{RolloutChange, StandingView, approve, deny, pause};
 use desk_reads::{SeenRollout, read_seen_rollout};
-use desk_store::{Fault, OpenChange};
+use desk_store::{Calls, Fault, change_rollout};
 use rollout_model::{Approval, Refusal, Reply, RolloutNo};
 use sqlite::Alter;
 
@@ -52,44 +52,44 @@ fn refusal_of(said: Said, seen: &SeenRollout) -> Option<Refusal>
 
 /// Writes it.
 fn write_said<S: Alter>(
-    change: &mut OpenChange<'_, S>,
+    calls: &mut Calls<S>,
     number: RolloutNo,
     seen: &SeenRollout,
     said: Said,
 ) -> Result<(), Fault>
-    ensures stays { WritesIn S.Store change.old change.new result }
-    ensures writes { MakesLedger S.Store change.old change.new result (WritesSaid said number seen.now) }
-    ensures work { RunsIn 1 change.old change.new }
+    ensures stays { WritesIn S.Store calls.old calls.new result }
+    ensures writes { MakesLedger S.Store calls.old calls.new result (WritesSaid said number seen.now) }
+    ensures work { RunsIn 1 calls.old calls.new }
 {
     match said {
         Said::Approved => {
-            change.change_rollout(number, Approval::Given, seen.started, seen.paused)
+            change_rollout(calls, number, Approval::Given, seen.started, seen.paused)
         }
         Said::Denied => {
-            change.change_rollout(number, Approval::Denied, seen.started, seen.paused)
+            change_rollout(calls, number, Approval::Denied, seen.started, seen.paused)
         }
-        Said::Paused => change.change_rollout(number, seen.approval, seen.started, true),
+        Said::Paused => change_rollout(calls, number, seen.approval, seen.started, true),
     }
 }
 
 /// Says it of a rollout, where it can be said.
 pub(crate) fn say<S: Alter>(
-    change: &mut OpenChange<'_, S>,
+    calls: &mut Calls<S>,
     number: RolloutNo,
     said: Said,
 ) -> Result<Step, Fault>
-    ensures stays { StaysIn S.Store change.old change.new result }
-    ensures steps { StepsIn S.Store change.old change.new (command_said said number) result }
-    ensures fails { FailsStepIn S.Store change.old change.new result }
-    ensures work { RunsIn 3 change.old change.new }
+    ensures stays { StaysIn S.Store calls.old calls.new result }
+    ensures steps { StepsIn S.Store calls.old calls.new (command_said said number) result }
+    ensures fails { FailsStepIn S.Store calls.old calls.new result }
+    ensures work { RunsIn 3 calls.old calls.new }
 {
-    let found = read_seen_rollout(change, number)?;
+    let found = read_seen_rollout(calls, number)?;
     let Some(seen) = found else {
         return Ok(Step::Refused(Refusal::NotFound));
     };
     if let Some(refusal) = refusal_of(said, &seen) {
         return Ok(Step::Refused(refusal));
     }
-    write_said(change, number, &seen, said)?;
+    write_said(calls, number, &seen, said)?;
     Ok(Step::Accepted(Reply::Done))
 }

@@ -17,7 +17,7 @@ use crate::standing::refusal_in;
 use crate::step::Step;
 use campaign_core::{StandingView, start};
 use desk_reads::{SeenRollout, read_seen_rollout};
-use desk_store::{Fault, OpenChange};
+use desk_store::{Calls, Fault, change_rollout, read_last_action, write_actions};
 use rollout_machine::GroupRecord;
 use rollout_model::limits::NUMBER_LIMIT;
 use rollout_model::{Refusal, Reply, RolloutNo};
@@ -35,18 +35,18 @@ fn start_refusal(seen: &SeenRollout) -> Option<Refusal>
 
 /// Writes that a rollout is started: an action for each member, and its first group.
 fn write_start<S: Alter>(
-    change: &mut OpenChange<'_, S>,
+    calls: &mut Calls<S>,
     number: RolloutNo,
     seen: &SeenRollout,
     first: &GroupRecord,
 ) -> Result<(), Fault>
-    ensures stays { WritesIn S.Store change.old change.new result }
-    ensures writes { MakesLedger S.Store change.old change.new result (StartsWhole number seen.now first.now) }
-    ensures work { AddsIn 4 0 change.old change.new }
+    ensures stays { WritesIn S.Store calls.old calls.new result }
+    ensures writes { MakesLedger S.Store calls.old calls.new result (StartsWhole number seen.now first.now) }
+    ensures work { AddsIn 4 0 calls.old calls.new }
 {
-    change.change_rollout(number, seen.approval, true, seen.paused)?;
-    change.write_actions(number)?;
-    start_group(change, number, first)
+    change_rollout(calls, number, seen.approval, true, seen.paused)?;
+    write_actions(calls, number)?;
+    start_group(calls, number, first)
 }
 
 /// Where there are no numbers for so many further actions the store failed. `last` is the number of the last one that is there.
@@ -71,24 +71,24 @@ fn first_group(seen: &SeenRollout) -> Result<GroupRecord, Fault>
 
 /// Starts a rollout that is ready: each member has an action from then on, and those of the first group are offered.
 pub(crate) fn start_rollout<S: Alter>(
-    change: &mut OpenChange<'_, S>,
+    calls: &mut Calls<S>,
     number: RolloutNo,
 ) -> Result<Step, Fault>
-    ensures stays { StaysIn S.Store change.old change.new result }
-    ensures steps { StepsIn S.Store change.old change.new (Start number) result }
-    ensures fails { FailsStepIn S.Store change.old change.new result }
-    ensures work { RunsIn 7 change.old change.new }
+    ensures stays { StaysIn S.Store calls.old calls.new result }
+    ensures steps { StepsIn S.Store calls.old calls.new (Start number) result }
+    ensures fails { FailsStepIn S.Store calls.old calls.new result }
+    ensures work { RunsIn 7 calls.old calls.new }
 {
-    let found = read_seen_rollout(change, number)?;
+    let found = read_seen_rollout(calls, number)?;
     let Some(seen) = found else {
         return Ok(Step::Refused(Refusal::NotFound));
     };
     if let Some(refusal) = start_refusal(&seen) {
         return Ok(Step::Refused(refusal));
     }
-    let last = change.read_last_action()?;
+    let last = read_last_action(calls)?;
     let first = first_group(&seen)?;
     check_numbers(last, seen.members())?;
-    write_start(change, number, &seen, &first)?;
+    write_start(calls, number, &seen, &first)?;
     Ok(Step::Accepted(Reply::Done))
 }

@@ -12,37 +12,34 @@ ghost use Rattle.desk_commands.specs.Failures.{FailsStepIn};
 
 use crate::step::Step;
 use campaign_core::{TagView, UntagView};
-use desk_store::{Fault, OpenChange};
+use desk_store::{Calls, Fault, drop_target_tag, read_target, read_target_tags, write_target_tag};
 use rollout_model::{ControllerId, Reply, Word};
 use sqlite::Alter;
 
 /// Whether the target of an id isn't there.
-pub(crate) fn lacks_target<S: Alter>(
-    change: &mut OpenChange<'_, S>,
-    id: &ControllerId,
-) -> Result<bool, Fault>
-    ensures stays { StaysIn S.Store change.old change.new result }
-    ensures reads { FindsIn S.Store change.old change.new result (λ r lacks. lacks ≡ is_none (target_of r id.now)) }
-    ensures fails { FailsAtListsIn S.Store change.old change.new result }
-    ensures work { AddsIn 1 1 change.old change.new }
+pub(crate) fn lacks_target<S: Alter>(calls: &mut Calls<S>, id: &ControllerId) -> Result<bool, Fault>
+    ensures stays { StaysIn S.Store calls.old calls.new result }
+    ensures reads { FindsIn S.Store calls.old calls.new result (λ r lacks. lacks ≡ is_none (target_of r id.now)) }
+    ensures fails { FailsAtListsIn S.Store calls.old calls.new result }
+    ensures work { AddsIn 1 1 calls.old calls.new }
 {
-    let found = change.read_target(id)?;
+    let found = read_target(calls, id)?;
     Ok(found.is_none())
 }
 
 /// What the verdict on a tag rests on.
 fn read_view<S: Alter>(
-    change: &mut OpenChange<'_, S>,
+    calls: &mut Calls<S>,
     id: &ControllerId,
     tag: &Word,
 ) -> Result<TagView, Fault>
-    ensures stays { StaysIn S.Store change.old change.new result }
-    ensures reads { FindsIn S.Store change.old change.new result (λ r view. IsTagView view id.now tag.now r) }
-    ensures fails { FailsAtListsIn S.Store change.old change.new result }
-    ensures work { RunsIn 2 change.old change.new }
+    ensures stays { StaysIn S.Store calls.old calls.new result }
+    ensures reads { FindsIn S.Store calls.old calls.new result (λ r view. IsTagView view id.now tag.now r) }
+    ensures fails { FailsAtListsIn S.Store calls.old calls.new result }
+    ensures work { RunsIn 2 calls.old calls.new }
 {
-    let misses_target = lacks_target(change, id)?;
-    let tags = change.read_target_tags(id)?;
+    let misses_target = lacks_target(calls, id)?;
+    let tags = read_target_tags(calls, id)?;
     Ok(TagView {
         misses_target,
         same: tags.contains(tag),
@@ -52,16 +49,16 @@ fn read_view<S: Alter>(
 
 /// Gives a target a tag. One that it has stays.
 pub(crate) fn tag_target<S: Alter>(
-    change: &mut OpenChange<'_, S>,
+    calls: &mut Calls<S>,
     id: &ControllerId,
     tag: &Word,
 ) -> Result<Step, Fault>
-    ensures stays { StaysIn S.Store change.old change.new result }
-    ensures steps { StepsIn S.Store change.old change.new (Tag id.now tag.now) result }
-    ensures fails { FailsStepIn S.Store change.old change.new result }
-    ensures work { RunsIn 3 change.old change.new }
+    ensures stays { StaysIn S.Store calls.old calls.new result }
+    ensures steps { StepsIn S.Store calls.old calls.new (Tag id.now tag.now) result }
+    ensures fails { FailsStepIn S.Store calls.old calls.new result }
+    ensures work { RunsIn 3 calls.old calls.new }
 {
-    let view = read_view(change, id, tag)?;
+    let view = read_view(calls, id, tag)?;
     match campaign_core::tag(&view) {
         Ok(()) => {}
         Err(refusal) => return Ok(Step::Refused(refusal)),
@@ -69,26 +66,26 @@ pub(crate) fn tag_target<S: Alter>(
     if view.same {
         return Ok(Step::Accepted(Reply::Done));
     }
-    change.write_target_tag(id, tag)?;
+    write_target_tag(calls, id, tag)?;
     Ok(Step::Accepted(Reply::Done))
 }
 
 /// Takes a tag from a target. One that it hasn't is taken already.
 pub(crate) fn untag_target<S: Alter>(
-    change: &mut OpenChange<'_, S>,
+    calls: &mut Calls<S>,
     id: &ControllerId,
     tag: &Word,
 ) -> Result<Step, Fault>
-    ensures stays { StaysIn S.Store change.old change.new result }
-    ensures steps { StepsIn S.Store change.old change.new (Untag id.now tag.now) result }
-    ensures fails { FailsStepIn S.Store change.old change.new result }
-    ensures work { RunsIn 2 change.old change.new }
+    ensures stays { StaysIn S.Store calls.old calls.new result }
+    ensures steps { StepsIn S.Store calls.old calls.new (Untag id.now tag.now) result }
+    ensures fails { FailsStepIn S.Store calls.old calls.new result }
+    ensures work { RunsIn 2 calls.old calls.new }
 {
-    let misses_target = lacks_target(change, id)?;
+    let misses_target = lacks_target(calls, id)?;
     match campaign_core::untag(&UntagView { misses_target }) {
         Ok(()) => {}
         Err(refusal) => return Ok(Step::Refused(refusal)),
     }
-    change.drop_target_tag(id, tag)?;
+    drop_target_tag(calls, id, tag)?;
     Ok(Step::Accepted(Reply::Done))
 }

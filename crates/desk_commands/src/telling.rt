@@ -8,7 +8,7 @@ ghost use Rattle.desk_store.specs.Changing.{MakesLedger};
 ghost use Rattle.desk_store.specs.Failing.{WritesIn};
 
 use crate::counts::{Counts, more_if, one_more};
-use desk_store::{Fault, NewEntry, OpenChange, PlacedNumber};
+use desk_store::{Calls, Fault, NewEntry, PlacedNumber, write_entry};
 use rollout_model::ActionNo;
 use sqlite::Alter;
 
@@ -55,14 +55,14 @@ pub(crate) fn numbers_with(told: &Option<Told>) -> Result<u32, Fault>
 
 /// Adds the number of what was told to those of the action, where it bears one. Its entry is the last one.
 fn write_number<S: Alter>(
-    change: &mut OpenChange<'_, S>,
+    calls: &mut Calls<S>,
     action: ActionNo,
     counts: &Counts,
     told: &Told,
 ) -> Result<(), Fault>
-    ensures stays { WritesIn S.Store change.old change.new result }
-    ensures writes { MakesLedger S.Store change.old change.new result (WritesNumber action counts.now told.now) }
-    ensures work { AddsIn (if_numbered told.now.entry.number 1) 0 change.old change.new }
+    ensures stays { WritesIn S.Store calls.old calls.new result }
+    ensures writes { MakesLedger S.Store calls.old calls.new result (WritesNumber action counts.now told.now) }
+    ensures work { AddsIn (if_numbered told.now.entry.number 1) 0 calls.old calls.new }
 {
     match told.entry.number {
         Some(number) => {
@@ -70,7 +70,7 @@ fn write_number<S: Alter>(
                 sequence: counts.entries,
                 number,
             };
-            change.write_number(action, counts.numbers, &it)
+            desk_store::write_number(calls, action, counts.numbers, &it)
         }
         None => Ok(()),
     }
@@ -78,19 +78,19 @@ fn write_number<S: Alter>(
 
 /// Adds what was told to the history of an action, where something was, as its last entry, and its number to those of the action.
 pub(crate) fn write_told<S: Alter>(
-    change: &mut OpenChange<'_, S>,
+    calls: &mut Calls<S>,
     action: ActionNo,
     counts: &Counts,
     told: &Option<Told>,
 ) -> Result<(), Fault>
-    ensures stays { WritesIn S.Store change.old change.new result }
-    ensures writes { MakesLedger S.Store change.old change.new result (WritesTold action counts.now told.now) }
-    ensures work { AddsIn (1 + if_numbered (number_told told.now) 1) 0 change.old change.new }
+    ensures stays { WritesIn S.Store calls.old calls.new result }
+    ensures writes { MakesLedger S.Store calls.old calls.new result (WritesTold action counts.now told.now) }
+    ensures work { AddsIn (1 + if_numbered (number_told told.now) 1) 0 calls.old calls.new }
 {
     match told {
         Some(told) => {
-            change.write_entry(action, counts.entries, &told.entry)?;
-            write_number(change, action, counts, told)
+            write_entry(calls, action, counts.entries, &told.entry)?;
+            write_number(calls, action, counts, told)
         }
         None => Ok(()),
     }

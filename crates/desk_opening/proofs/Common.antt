@@ -72,7 +72,7 @@ pub use Rattle.desk_records.specs.declared.rollout_texts.TheConstants.{GET_ROLLO
 pub use Rattle.desk_records.specs.declared.texts.TheConstants.{GET_DESK, PUT_DESK, SET_VERSION}
 pub use Rattle.desk_records.specs.declared.version.Version.{Version}
 pub use Rattle.desk_records.specs.declared.version.Version.TheVariants.{One}
-pub use Rattle.desk_opening.specs.private.Filling.{FillsLater, FillsRollout, MakesLedger, WritesCopies, WritesRules}
+pub use Rattle.desk_opening.specs.private.Filling.{FillsLater, FillsRollout, WritesCopies, WritesRules}
 pub use Rattle.desk_opening.specs.private.Filling.{bare_ledger, no_rules}
 pub use Rattle.desk_store.specs.Breaking.{TellsFirst}
 pub use Rattle.desk_store.specs.Failing.{nothing}

@@ -1,12 +1,12 @@
 -- Why a migration of records that can be read is no failed store by itself.
 use Rattle.desk_opening.proofs.Common.{◌≡◌, ◌<◌, ◌≤◌, ◌+◌, ◌^◌, ℕ, suc, List, [], ◌∷◌, length, Ok, Err, Result, inl, inr, refl, sym, subst, ◌∙◌, arith, Row}
 use Rattle.desk_opening.proofs.Common.{State, Has}
-use Rattle.desk_opening.proofs.Common.{HasCleanDisk, Fault, Wears, AllByRecursion, RolloutRecord, Records, Version, One, HoldsLedger, Ledger, MakesLedger, Sees}
+use Rattle.desk_opening.proofs.Common.{HasCleanDisk, Fault, Wears, AllByRecursion, RolloutRecord, Records, Version, One, HoldsLedger, Ledger, Sees}
 use Rattle.desk_opening.proofs.Common.{TellsFirst, bare_ledger, nothing}
 use Rattle.std.specs.Prelude.{IsErrAnd}
 use Rattle.std.proofs.lemmas.Bool.Decides.{nat_tests}
 use Rattle.sql_calls.specs.Keyed.{rows_from}
-use Rattle.sql_calls.specs.Standing.{Finds}
+use Rattle.sql_calls.specs.Standing.{Finds, Makes}
 use Rattle.desk_records.specs.LedgerSteps.{with_rules}
 use Rattle.desk_records.specs.Rollouts.{rollout_row}
 use Rattle.desk_records.specs.Schema.{Rollouts}
@@ -42,7 +42,7 @@ bare_fails v is out h = grind (arith, bare_given v is)
 -- behind the number of the last, and the first k rollouts
 pub rules_fail : {a b m z : State} (k last n : ℕ) → k < last → n ≡ suc k
     → Finds HoldsLedger (λ (l : Ledger). l) {E = Fault} a b (Ok last) (λ l last. last ≡ length l.records.rollouts)
-    → MakesLedger {A = Unit {0}} {E = Fault} b m (Ok tt) (WritesUpTo k) → Wears m z → (fault : Fault)
+    → Makes HoldsLedger (λ (l : Ledger). l) {A = Unit {0}} {E = Fault} b m (Ok tt) (WritesUpTo k) → Wears m z → (fault : Fault)
     → TellsFirst HoldsLedger (HasReadable n) nothing {A = Unit {0}} m z (Err fault) → (out : Result (Unit {0}) Fault) → IsErrAnd out (λ e. e ≡ fault)
     → TellsFirst HoldsLedger GivenRules nothing a z out
 rules_fail k last n low next read made wears fault h (Ok x) is = absurd is

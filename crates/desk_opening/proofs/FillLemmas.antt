@@ -10,20 +10,16 @@ use Rattle.desk_records.specs.RolloutRow.{stored_rollout}
 use Rattle.desk_records.specs.declared.rollout_row.StoredRollout.{StoredRollout}
 use Rattle.desk_records.proofs.HeldCounts.{at_place}
 use Rattle.desk_opening.proofs.RuleLists.{WritesUpTo, rules_up_to, all_even, all_said, got_set, none_said, none_yet, one_more, set_same}
-use Rattle.std.proofs.Common.{set-set, rules}
+use Rattle.std.proofs.Common.{set-set}
 use Rattle.sqlite.specs.Store.{Ghosts}
 use Rattle.sql_calls.specs.declared.calls.Calls.{Calls}
-use Rattle.sql_calls.proofs.Stepping.{no_step, steps_then}
-use Rattle.desk_store.specs.Sharing.{Stays}
+use Rattle.desk_store.specs.Changing.{StaysIn}
 
 -- ---- one call after the other
 
-module _ {S : Type 0} {g : Ghosts S} where
-  pub no_stay : (a : Calls S) → Stays g a a (Ok (tt {0}))
-  no_stay a = record { grows = search rules; frame = λ kept opens. opens; advances = no_step tt _ }
-
-  pub stays_then : {A B : Type 0} {a b c : Calls S} {x : A} → Stays g a b (Ok x) → (out : Result B Fault) → Stays g b c out → Stays g a c out
-  stays_then first out second = grind (arith, steps_then)
+pub stays_then : {S A B : Type 0} {g : Ghosts S} {a b c : Calls S} {x : A} → StaysIn g a b (Ok x) → (out : Result B Fault) → StaysIn g b c out
+    → StaysIn g a c out
+stays_then first out second = grind arith
 
 -- ---- of one rollout
 

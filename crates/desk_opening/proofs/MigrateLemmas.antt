@@ -1,10 +1,11 @@
 -- From the tables of a version to those of the newest, from BEGIN to COMMIT.
 use Rattle.desk_opening.proofs.Common.{inl, inr, [], Ok, Err, Result, refl, arith, Update, State, Fault, RunsText, Sees, commit_is, runs_plain}
-use Rattle.desk_opening.proofs.Common.{Commit, IsKnownOpen, Records, HoldsLedger, HoldsRecords, Rests, ledger_of, HoldsAt, Desk, later_than, SET_VERSION}
-use Rattle.desk_opening.proofs.Common.{Version, set_version_is, set_version_query, codes, true, OpenFault, FillsLater, MakesLedger, bare_ledger, At}
+use Rattle.desk_opening.proofs.Common.{Commit, IsKnownOpen, Records, HoldsLedger, HoldsRecords, Rests, Ledger, ledger_of, HoldsAt, Desk, later_than}
+use Rattle.desk_opening.proofs.Common.{SET_VERSION}
+use Rattle.desk_opening.proofs.Common.{Version, set_version_is, set_version_query, codes, true, OpenFault, FillsLater, bare_ledger, At}
 use Rattle.desk_opening.proofs.Common.{HoldsStage, MakesTables, Older, Partly, Whole, Migrates, changed_at, first_records}
 use Rattle.desk_records.proofs.HeldTables.{are_tables, rows_of}
-use Rattle.sql_calls.specs.Standing.{Advances}
+use Rattle.sql_calls.specs.Standing.{Advances, Makes}
 use Rattle.sql_calls.proofs.Stepping.{ran}
 use Rattle.desk_store.specs.Sharing.{HasTables}
 use Rattle.desk_opening.proofs.Steps.{Turns, Within, begun, goes, rests_as, within_as}
@@ -37,7 +38,7 @@ module _ (v : Version) (r : Records) {a b : State} (first : RunsText a b (codes 
       sees_bare = (within_as {Kept = HoldsLedger} (λ db h. h) named).sees
 
       pub filled : {e : State} → Advances HasTables {A = Unit {0}} {E = Fault} tt tt d e (Ok tt)
-          → MakesLedger {A = Unit {0}} {E = Fault} d e (Ok tt) (FillsLater v)
+          → Makes HoldsLedger (λ (l : Ledger). l) {A = Unit {0}} {E = Fault} d e (Ok tt) (FillsLater v)
           → Within HoldsStage (At v r) a e (Whole (ledger_of r))
       filled {e} fourth filling =
           let still = goes standing fourth in

@@ -3,55 +3,53 @@
 ghost use Rattle.std.specs.Prelude.{◌≢◌, ◌≤◌, IfErr};
 ghost use Rattle.desk_records.specs.Holds.{HoldsLedger};
 ghost use Rattle.desk_store.specs.Breaking.{TellsFirst};
+ghost use Rattle.desk_store.specs.Changing.{MakesLedger, StaysIn, seen_in};
 ghost use Rattle.desk_store.specs.Failing.{nothing};
-ghost use Rattle.desk_store.specs.Sharing.{Stays, seen_by};
+ghost use Rattle.desk_store.specs.Sharing.{KeepsStanding};
 ghost use Rattle.desk_opening.specs.Counting.{HasReadable};
-ghost use Rattle.desk_opening.specs.private.Filling.{FillsLater, FillsRollout, GivenBare, GivenRules, MakesLedger, WritesCopies, WritesRules};
+ghost use Rattle.desk_opening.specs.private.Filling.{FillsLater, FillsRollout, GivenBare, GivenRules, WritesCopies, WritesRules};
 
 use desk_records::Version;
-use desk_store::{read_last_rollout, read_rollout, write_rule};
+use desk_store::{Calls, Fault, read_last_rollout, read_rollout, write_rule};
 use rollout_model::GroupRule;
-use sql_calls::{Calls, Fault};
 use sqlite::Alter;
-use std::alloc::Global;
 
 /// Fills the tables that a version doesn't have.
-pub(crate) fn fill_later<S: Alter>(
-    alloc: Global,
-    calls: &mut Calls<S>,
-    version: Version,
-) -> Result<(), Fault>
-    ensures stays { Stays S.Store calls.old calls.new result }
-    ensures writes { MakesLedger (seen_by S.Store calls.old) (seen_by S.Store calls.new) result (FillsLater version) }
-    ensures fails { TellsFirst HoldsLedger (GivenBare version) nothing (seen_by S.Store calls.old) (seen_by S.Store calls.new) result }
+pub(crate) fn fill_later<S: Alter>(calls: &mut Calls<S>, version: Version) -> Result<(), Fault>
+    ensures stays { StaysIn S.Store calls.old calls.new result }
+    ensures standing { KeepsStanding S.Store calls.old calls.new result }
+    ensures writes { MakesLedger S.Store calls.old calls.new result (FillsLater version) }
+    ensures fails { TellsFirst HoldsLedger (GivenBare version) nothing (seen_in S.Store calls.old) (seen_in S.Store calls.new) result }
 {
     match version {
-        Version::One => write_rules(alloc, calls),
+        Version::One => write_rules(calls),
         Version::Two | Version::Three => Ok(()),
     }
 }
 
 /// Says of each group of all rollouts what its rollout says of all its groups.
-fn write_rules<S: Alter>(alloc: Global, calls: &mut Calls<S>) -> Result<(), Fault>
-    ensures stays { Stays S.Store calls.old calls.new result }
-    ensures writes { MakesLedger (seen_by S.Store calls.old) (seen_by S.Store calls.new) result WritesRules }
-    ensures fails { TellsFirst HoldsLedger GivenRules nothing (seen_by S.Store calls.old) (seen_by S.Store calls.new) result }
+fn write_rules<S: Alter>(calls: &mut Calls<S>) -> Result<(), Fault>
+    ensures stays { StaysIn S.Store calls.old calls.new result }
+    ensures standing { KeepsStanding S.Store calls.old calls.new result }
+    ensures writes { MakesLedger S.Store calls.old calls.new result WritesRules }
+    ensures fails { TellsFirst HoldsLedger GivenRules nothing (seen_in S.Store calls.old) (seen_in S.Store calls.new) result }
 {
     let last = read_last_rollout(calls)?;
     for k in 0..last {
-        write_rules_of(alloc, calls, k + 1)?;
+        write_rules_of(calls, k + 1)?;
     }
     Ok(())
 }
 
 /// The same of one rollout.
-fn write_rules_of<S: Alter>(alloc: Global, calls: &mut Calls<S>, number: u32) -> Result<(), Fault>
+fn write_rules_of<S: Alter>(calls: &mut Calls<S>, number: u32) -> Result<(), Fault>
     requires { 1 ≤ number }
-    ensures stays { Stays S.Store calls.old calls.new result }
-    ensures writes { MakesLedger (seen_by S.Store calls.old) (seen_by S.Store calls.new) result (FillsRollout number) }
-    ensures fails { TellsFirst HoldsLedger (HasReadable number) nothing (seen_by S.Store calls.old) (seen_by S.Store calls.new) result }
+    ensures stays { StaysIn S.Store calls.old calls.new result }
+    ensures standing { KeepsStanding S.Store calls.old calls.new result }
+    ensures writes { MakesLedger S.Store calls.old calls.new result (FillsRollout number) }
+    ensures fails { TellsFirst HoldsLedger (HasReadable number) nothing (seen_in S.Store calls.old) (seen_in S.Store calls.new) result }
 {
-    match read_rollout(alloc, calls, number)? {
+    match read_rollout(calls, number)? {
         Some(rollout) => {
             let plan = &rollout.plan;
             let rule = GroupRule::evenly(plan.success, plan.error);
@@ -68,8 +66,9 @@ fn write_copies<S: Alter>(
     groups: u32,
     rule: &GroupRule,
 ) -> Result<(), Fault>
-    ensures stays { Stays S.Store calls.old calls.new result }
-    ensures writes { MakesLedger (seen_by S.Store calls.old) (seen_by S.Store calls.new) result (WritesCopies number groups rule.now) }
+    ensures stays { StaysIn S.Store calls.old calls.new result }
+    ensures standing { KeepsStanding S.Store calls.old calls.new result }
+    ensures writes { MakesLedger S.Store calls.old calls.new result (WritesCopies number groups rule.now) }
     ensures sound { IfErr result (λ fault. fault ≢ Fault.Broken) }
 {
     for i in 0..groups {

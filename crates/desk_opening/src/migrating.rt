@@ -13,14 +13,9 @@ use crate::version_tables::tables_after;
 use desk_records::{SET_VERSION, Version};
 use sql_calls::Calls;
 use sqlite::Alter;
-use std::alloc::Global;
 
 /// Makes the tables of a version into those of the newest, in one transaction. After an error the caller still has the connection.
-pub(crate) fn migrate<S: Alter>(
-    alloc: Global,
-    calls: &mut Calls<S>,
-    version: Version,
-) -> Result<(), OpenFault>
+pub(crate) fn migrate<S: Alter>(calls: &mut Calls<S>, version: Version) -> Result<(), OpenFault>
     ensures migrates { Migrates version (state S.Store calls.old.conn) (state S.Store calls.new.conn) result }
     ensures failed { IfErr result IsFailure }
     ensures fails { CountsWhere (IsReadableAt version (state S.Store calls.old.conn) (state S.Store calls.new.conn)) calls.old calls.new result }
@@ -29,7 +24,7 @@ pub(crate) fn migrate<S: Alter>(
     calls.begin()?;
     make_tables(calls, tables_after(version))?;
     calls.run(SET_VERSION, &[])?;
-    fill_later(alloc, calls, version)?;
+    fill_later(calls, version)?;
     calls.commit()?;
     Ok(())
 }

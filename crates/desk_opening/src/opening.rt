@@ -237,7 +237,7 @@ fn renew<S: Alter>(alloc: Global, calls: &mut Calls<S>, version: Version) -> Res
     if let Version::Three = version {
         return Ok(());
     }
-    migrate(alloc, calls, version)?;
+    migrate(calls, version)?;
     look_again(alloc, calls.schema())
 }
 
@@ -281,7 +281,7 @@ pub fn open_desk<S: Alter + Drop>(
     ensures settled { IsSettled (state S.Store conn) }
     ensures fails { IfErr result (λ e. HasCause S.Store (state S.Store conn) e.1 e.0) }
 {
-    let mut calls = Calls::new(conn);
+    let mut calls = Calls::new(alloc, conn);
     match enter(alloc, &mut calls, approval_if_new) {
         Ok(()) => Ok(calls.into_connection()),
         Err(fault) => Err((fault, calls)),

@@ -8,7 +8,7 @@ use Rattle.sql_calls.specs.declared.fault.Fault.{Fault}
 use Rattle.desk_records.specs.Holds.{Ledger, ledger_of}
 use Rattle.desk_store.specs.Changing.{FindsIn}
 use Rattle.desk_store.specs.Failing.{FailsGiven}
-use Rattle.desk_store.specs.declared.change.OpenChange.{OpenChange}
+use Rattle.sql_calls.specs.declared.calls.Calls.{Calls}
 
 -- a list of accepted commands has these records
 pub record AreOfList (r : Records) : Type 0 where
@@ -18,7 +18,7 @@ pub record AreOfList (r : Records) : Type 0 where
 
 module _ {S : Type 0} (g : Ghosts S) where
   -- a read whose answer is known at the records of such lists alone
-  abbrev pub FindsAtListsIn : {A E : Type 0} → OpenChange S → OpenChange S → Result A E → (Records → A → Type 0) → Type 0
+  abbrev pub FindsAtListsIn : {A E : Type 0} → Calls S → Calls S → Result A E → (Records → A → Type 0) → Type 0
   FindsAtListsIn old new result Answer = FindsIn g old new result (λ r it. AreOfList r → Answer r it)
 
 -- ---- when a call is a failed store
@@ -31,7 +31,7 @@ pub record IsOfList (l : Ledger) : Type 0 where
 
 module _ {S : Type 0} (g : Ghosts S) where
   -- what reads: where such a ledger is seen and can be read, a failed store is a call that failed
-  abbrev pub FailsAtListsIn : {A : Type 0} → OpenChange S → OpenChange S → Result A Fault → Type 0
+  abbrev pub FailsAtListsIn : {A : Type 0} → Calls S → Calls S → Result A Fault → Type 0
   FailsAtListsIn = FailsGiven g IsOfList
 
 -- the ledger is that of a list of accepted commands, whose records are as wanted
@@ -41,5 +41,5 @@ pub record IsOfListWith (Want : Records → Type 0) (l : Ledger) : Type 0 where
 
 module _ {S : Type 0} (g : Ghosts S) where
   -- .. where these are as wanted
-  abbrev pub FailsWith : {A : Type 0} → (Records → Type 0) → OpenChange S → OpenChange S → Result A Fault → Type 0
+  abbrev pub FailsWith : {A : Type 0} → (Records → Type 0) → Calls S → Calls S → Result A Fault → Type 0
   FailsWith Want = FailsGiven g (IsOfListWith Want)

@@ -11,7 +11,9 @@ ghost use Rattle.desk_reads.specs.Targets.{listed_ids};
 ghost use Rattle.desk_store.specs.Changing.{FindsIn, StaysIn};
 ghost use Rattle.desk_store.specs.Counting.{RunsIn};
 
-use desk_store::{Fault, ListedTarget, OpenChange};
+use desk_store::{
+    Calls, Fault, ListedTarget, read_all_targets, read_target_ids, read_targets_between,
+};
 use rollout_model::{ControllerId, Text};
 use sqlite::Alter;
 use std::alloc::Global;
@@ -21,22 +23,22 @@ use target_filter::Filter;
 /// Targets in byte order of their ids, and among them all that match: where the filter says how an id begins, few others are read. By
 /// one statement, which reads ids alone where the filter neither says that nor names names.
 pub(crate) fn read_candidates<S: Alter>(
-    change: &mut OpenChange<'_, S>,
+    calls: &mut Calls<S>,
     filter: &Filter,
 ) -> Result<Vec<ListedTarget>, Fault>
-    ensures stays { StaysIn S.Store change.old change.new result }
-    ensures reads { FindsIn S.Store change.old change.new result
+    ensures stays { StaysIn S.Store calls.old calls.new result }
+    ensures reads { FindsIn S.Store calls.old calls.new result
         (λ now listed. IsSomeAnd (filter_of filter.now) (λ f. AreCandidates now f listed.items)) }
-    ensures fails { FailsAtListsIn S.Store change.old change.new result }
-    ensures work { RunsIn 1 change.old change.new }
+    ensures fails { FailsAtListsIn S.Store calls.old calls.new result }
+    ensures work { RunsIn 1 calls.old calls.new }
 {
     let start = filter.id_start();
     if start.is_empty() && !filter.names_names() {
-        let ids = change.read_target_ids()?;
-        let all = unnamed(change.alloc(), ids)?;
+        let ids = read_target_ids(calls)?;
+        let all = unnamed(calls.alloc(), ids)?;
         return Ok(all);
     }
-    let listed = read_begun(change, start)?;
+    let listed = read_begun(calls, start)?;
     Ok(listed)
 }
 
@@ -57,39 +59,33 @@ fn unnamed(alloc: Global, ids: Vec<ControllerId>) -> Result<Vec<ListedTarget>, F
 }
 
 /// The targets whose ids begin with these bytes, and perhaps others.
-fn read_begun<S: Alter>(
-    change: &mut OpenChange<'_, S>,
-    start: &[u8],
-) -> Result<Vec<ListedTarget>, Fault>
-    ensures stays { StaysIn S.Store change.old change.new result }
-    ensures reads { FindsIn S.Store change.old change.new result (λ now listed. AreBegun now start.now listed.items) }
-    ensures fails { FailsAtListsIn S.Store change.old change.new result }
-    ensures work { RunsIn 1 change.old change.new }
+fn read_begun<S: Alter>(calls: &mut Calls<S>, start: &[u8]) -> Result<Vec<ListedTarget>, Fault>
+    ensures stays { StaysIn S.Store calls.old calls.new result }
+    ensures reads { FindsIn S.Store calls.old calls.new result (λ now listed. AreBegun now start.now listed.items) }
+    ensures fails { FailsAtListsIn S.Store calls.old calls.new result }
+    ensures work { RunsIn 1 calls.old calls.new }
 {
     let Ok(first) = str::from_utf8(start) else {
-        let all = change.read_all_targets()?;
+        let all = read_all_targets(calls)?;
         return Ok(all);
     };
-    let listed = read_from(change, first)?;
+    let listed = read_from(calls, first)?;
     Ok(listed)
 }
 
 /// The targets whose ids begin with this text, and perhaps others: those from the text to the next one, or all where there is none.
-fn read_from<S: Alter>(
-    change: &mut OpenChange<'_, S>,
-    first: &str,
-) -> Result<Vec<ListedTarget>, Fault>
-    ensures stays { StaysIn S.Store change.old change.new result }
-    ensures reads { FindsIn S.Store change.old change.new result (λ now listed. AreBegun now first.now listed.items) }
-    ensures fails { FailsAtListsIn S.Store change.old change.new result }
-    ensures work { RunsIn 1 change.old change.new }
+fn read_from<S: Alter>(calls: &mut Calls<S>, first: &str) -> Result<Vec<ListedTarget>, Fault>
+    ensures stays { StaysIn S.Store calls.old calls.new result }
+    ensures reads { FindsIn S.Store calls.old calls.new result (λ now listed. AreBegun now first.now listed.items) }
+    ensures fails { FailsAtListsIn S.Store calls.old calls.new result }
+    ensures work { RunsIn 1 calls.old calls.new }
 {
-    let next = next_to(change.alloc(), first)?;
+    let next = next_to(calls.alloc(), first)?;
     let Some(last) = next else {
-        let all = change.read_all_targets()?;
+        let all = read_all_targets(calls)?;
         return Ok(all);
     };
-    let listed = change.read_targets_between(first, last.as_str())?;
+    let listed = read_targets_between(calls, first, last.as_str())?;
     Ok(listed)
 }
 

@@ -23,7 +23,7 @@ ghost use Rattle.desk_store.specs.Counting.{RunsIn};
 
 use crate::candidates::read_candidates;
 use crate::targets::{attributes_of_all, ends_of, tags_of_all, with_own};
-use desk_store::{Fault, ListedTarget, OpenChange, OwnedAttribute, OwnedTag};
+use desk_store::{Calls, Fault, ListedTarget, OwnedAttribute, OwnedTag, read_tag_between};
 use rollout_model::{ControllerId, Target};
 use sqlite::Alter;
 use std::alloc::Global;
@@ -36,42 +36,42 @@ const PART: usize = 100;
 
 /// The ids of the targets that a filter matches, in byte order. No more is read of any target than the filter names.
 pub fn read_matching<S: Alter>(
-    change: &mut OpenChange<'_, S>,
+    calls: &mut Calls<S>,
     filter: &Filter,
 ) -> Result<Vec<ControllerId>, Fault>
-    ensures stays { StaysIn S.Store change.old change.new result }
-    ensures reads { FindsIn S.Store change.old change.new result
+    ensures stays { StaysIn S.Store calls.old calls.new result }
+    ensures reads { FindsIn S.Store calls.old calls.new result
         (λ now ids. IsSomeAnd (filter_of filter.now) (λ f. ids.items ≡ chosen (Some f) now.targets)) }
-    ensures fails { FailsAtListsIn S.Store change.old change.new result }
-    ensures work { FindsIn S.Store change.old change.new result (λ now _. change.new.store.now.calls.work.statements
-        ≤ change.old.store.now.calls.work.statements + (1 + reads_named (filter_of filter.now) (length now.targets))) }
+    ensures fails { FailsAtListsIn S.Store calls.old calls.new result }
+    ensures work { FindsIn S.Store calls.old calls.new result (λ now _. calls.new.work.statements
+        ≤ calls.old.work.statements + (1 + reads_named (filter_of filter.now) (length now.targets))) }
 {
-    let listed = read_candidates(change, filter)?;
-    let ids = keep_all(change, filter, listed)?;
+    let listed = read_candidates(calls, filter)?;
+    let ids = keep_all(calls, filter, listed)?;
     Ok(ids)
 }
 
 /// The ids of those of the targets, listed in byte order of their ids, that a filter matches: by two statements at most for up to 100 of
 /// them.
 fn keep_all<S: Alter>(
-    change: &mut OpenChange<'_, S>,
+    calls: &mut Calls<S>,
     filter: &Filter,
     listed: Vec<ListedTarget>,
 ) -> Result<Vec<ControllerId>, Fault>
-    ensures stays { StaysIn S.Store change.old change.new result }
-    ensures reads { FindsIn S.Store change.old change.new result
+    ensures stays { StaysIn S.Store calls.old calls.new result }
+    ensures reads { FindsIn S.Store calls.old calls.new result
         (λ now ids. in_byte_order (listed_ids listed.items) ≡ true → (f : Tree) → filter_of filter.now ≡ Some f
         → ids.items ≡ those_matched now f listed.items) }
-    ensures fails { FailsAtListsIn S.Store change.old change.new result }
-    ensures work { IfOk result (λ _. change.new.store.now.calls.work.statements ≤ change.old.store.now.calls.work.statements
+    ensures fails { FailsAtListsIn S.Store calls.old calls.new result }
+    ensures work { IfOk result (λ _. calls.new.work.statements ≤ calls.old.work.statements
         + reads_named (filter_of filter.now) (length listed.items)) }
 {
-    let mut ids = Vec::new(change.alloc());
+    let mut ids = Vec::new(calls.alloc());
     let parts = listed.len().div_ceil(PART);
     let mut left = VecDeque::from(listed);
     for _ in 0..parts {
-        let part = take_part(change.alloc(), &mut left)?;
-        keep_part(change, filter, part, &mut ids)?;
+        let part = take_part(calls.alloc(), &mut left)?;
+        keep_part(calls, filter, part, &mut ids)?;
     }
     Ok(ids)
 }
@@ -93,21 +93,21 @@ fn take_part(alloc: Global, left: &mut VecDeque<ListedTarget>) -> Result<Vec<Lis
 
 /// Adds the ids of those of a part of the listed targets that the filter matches.
 fn keep_part<S: Alter>(
-    change: &mut OpenChange<'_, S>,
+    calls: &mut Calls<S>,
     filter: &Filter,
     part: Vec<ListedTarget>,
     ids: &mut Vec<ControllerId>,
 ) -> Result<(), Fault>
-    ensures stays { StaysIn S.Store change.old change.new result }
-    ensures reads { FindsIn S.Store change.old change.new result
+    ensures stays { StaysIn S.Store calls.old calls.new result }
+    ensures reads { FindsIn S.Store calls.old calls.new result
         (λ now _. in_byte_order (listed_ids part.items) ≡ true → (f : Tree) → filter_of filter.now ≡ Some f
         → ids.new.items ≡ ids.old.items ++ those_matched now f part.items) }
-    ensures fails { FailsAtListsIn S.Store change.old change.new result }
-    ensures work { RunsIn (tags_reads (filter_of filter.now) + attributes_reads (filter_of filter.now)) change.old change.new }
+    ensures fails { FailsAtListsIn S.Store calls.old calls.new result }
+    ensures work { RunsIn (tags_reads (filter_of filter.now) + attributes_reads (filter_of filter.now)) calls.old calls.new }
 {
-    let tags = named_tags(change, filter, &part)?;
-    let attributes = named_attributes(change, filter, &part)?;
-    let targets = with_own(change.alloc(), part, &tags, &attributes)?;
+    let tags = named_tags(calls, filter, &part)?;
+    let attributes = named_attributes(calls, filter, &part)?;
+    let targets = with_own(calls.alloc(), part, &tags, &attributes)?;
     add_matching(filter, targets, ids)?;
     Ok(())
 }
@@ -115,64 +115,64 @@ fn keep_part<S: Alter>(
 /// The tags of the targets from the first to the last that were listed, as far as a filter names them: by one statement, where it names
 /// any.
 fn named_tags<S: Alter>(
-    change: &mut OpenChange<'_, S>,
+    calls: &mut Calls<S>,
     filter: &Filter,
     listed: &[ListedTarget],
 ) -> Result<Vec<OwnedTag>, Fault>
-    ensures stays { StaysIn S.Store change.old change.new result }
-    ensures reads { FindsIn S.Store change.old change.new result (λ now owned. AreNamedTags now (filter_of filter.now) listed.now owned.items) }
-    ensures fails { FailsAtListsIn S.Store change.old change.new result }
-    ensures work { RunsIn (tags_reads (filter_of filter.now)) change.old change.new }
+    ensures stays { StaysIn S.Store calls.old calls.new result }
+    ensures reads { FindsIn S.Store calls.old calls.new result (λ now owned. AreNamedTags now (filter_of filter.now) listed.now owned.items) }
+    ensures fails { FailsAtListsIn S.Store calls.old calls.new result }
+    ensures work { RunsIn (tags_reads (filter_of filter.now)) calls.old calls.new }
 {
     if !filter.names_tags() {
-        return Ok(Vec::new(change.alloc()));
+        return Ok(Vec::new(calls.alloc()));
     }
     let Ok(tag) = str::from_utf8(filter.only_tag()) else {
-        let all = tags_of_all(change, listed)?;
+        let all = tags_of_all(calls, listed)?;
         return Ok(all);
     };
-    let owned = tags_like(change, listed, tag)?;
+    let owned = tags_like(calls, listed, tag)?;
     Ok(owned)
 }
 
 /// Those of their tags that are this one, or all where it is empty.
 fn tags_like<S: Alter>(
-    change: &mut OpenChange<'_, S>,
+    calls: &mut Calls<S>,
     listed: &[ListedTarget],
     tag: &str,
 ) -> Result<Vec<OwnedTag>, Fault>
-    ensures stays { StaysIn S.Store change.old change.new result }
-    ensures reads { FindsIn S.Store change.old change.new result (λ now owned. AreTagsLike now tag.now listed.now owned.items) }
-    ensures fails { FailsAtListsIn S.Store change.old change.new result }
-    ensures work { RunsIn 1 change.old change.new }
+    ensures stays { StaysIn S.Store calls.old calls.new result }
+    ensures reads { FindsIn S.Store calls.old calls.new result (λ now owned. AreTagsLike now tag.now listed.now owned.items) }
+    ensures fails { FailsAtListsIn S.Store calls.old calls.new result }
+    ensures work { RunsIn 1 calls.old calls.new }
 {
     if tag.is_empty() {
-        let all = tags_of_all(change, listed)?;
+        let all = tags_of_all(calls, listed)?;
         return Ok(all);
     }
     let Some((first, last)) = ends_of(listed) else {
-        return Ok(Vec::new(change.alloc()));
+        return Ok(Vec::new(calls.alloc()));
     };
-    let owned = change.read_tag_between(&first, &last, tag)?;
+    let owned = read_tag_between(calls, &first, &last, tag)?;
     Ok(owned)
 }
 
 /// Their attributes, where the filter names one.
 fn named_attributes<S: Alter>(
-    change: &mut OpenChange<'_, S>,
+    calls: &mut Calls<S>,
     filter: &Filter,
     listed: &[ListedTarget],
 ) -> Result<Vec<OwnedAttribute>, Fault>
-    ensures stays { StaysIn S.Store change.old change.new result }
-    ensures reads { FindsIn S.Store change.old change.new result
+    ensures stays { StaysIn S.Store calls.old calls.new result }
+    ensures reads { FindsIn S.Store calls.old calls.new result
         (λ now owned. AreNamedAttributes now (filter_of filter.now) listed.now owned.items) }
-    ensures fails { FailsAtListsIn S.Store change.old change.new result }
-    ensures work { RunsIn (attributes_reads (filter_of filter.now)) change.old change.new }
+    ensures fails { FailsAtListsIn S.Store calls.old calls.new result }
+    ensures work { RunsIn (attributes_reads (filter_of filter.now)) calls.old calls.new }
 {
     if !filter.names_attributes() {
-        return Ok(Vec::new(change.alloc()));
+        return Ok(Vec::new(calls.alloc()));
     }
-    let all = attributes_of_all(change, listed)?;
+    let all = attributes_of_all(calls, listed)?;
     Ok(all)
 }
 

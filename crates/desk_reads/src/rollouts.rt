@@ -14,7 +14,7 @@ ghost use Rattle.desk_store.specs.Changing.{StaysIn};
 ghost use Rattle.desk_store.specs.Counting.{RunsIn};
 
 use campaign_core::{GroupStatus, RolloutStatus, rollout_word};
-use desk_store::{Fault, OpenChange, StoredRollout, ToldPlan};
+use desk_store::{Calls, Fault, StoredRollout, ToldPlan, read_groups, read_rollout};
 use rollout_machine::GroupRecord;
 use rollout_model::{Approval, RolloutNo, RolloutWord};
 use sqlite::Alter;
@@ -99,35 +99,35 @@ fn last_place(groups: &[GroupRecord]) -> u32
 
 /// The rollout of a number with all that is kept of it beside its members.
 pub fn read_seen_rollout<S: Alter>(
-    change: &mut OpenChange<'_, S>,
+    calls: &mut Calls<S>,
     number: RolloutNo,
 ) -> Result<Option<SeenRollout>, Fault>
-    ensures stays { StaysIn S.Store change.old change.new result }
-    ensures reads { FindsAtListsIn S.Store change.old change.new result (λ now found. BothOrNone IsSeenOf found (item_numbered now.rollouts number)) }
-    ensures fails { FailsAtListsIn S.Store change.old change.new result }
-    ensures work { RunsIn 2 change.old change.new }
+    ensures stays { StaysIn S.Store calls.old calls.new result }
+    ensures reads { FindsAtListsIn S.Store calls.old calls.new result (λ now found. BothOrNone IsSeenOf found (item_numbered now.rollouts number)) }
+    ensures fails { FailsAtListsIn S.Store calls.old calls.new result }
+    ensures work { RunsIn 2 calls.old calls.new }
 {
-    let stored = match change.read_rollout(number)? {
+    let stored = match read_rollout(calls, number.get())? {
         Some(stored) => stored,
         None => return Ok(None),
     };
-    let seen = read_groups_of(change, number, stored)?;
+    let seen = read_groups_of(calls, number, stored)?;
     Ok(Some(seen))
 }
 
 /// A rollout that was read, with its groups.
 pub(crate) fn read_groups_of<S: Alter>(
-    change: &mut OpenChange<'_, S>,
+    calls: &mut Calls<S>,
     number: RolloutNo,
     stored: StoredRollout,
 ) -> Result<SeenRollout, Fault>
-    ensures stays { StaysIn S.Store change.old change.new result }
-    ensures reads { FindsAtListsIn S.Store change.old change.new result
+    ensures stays { StaysIn S.Store calls.old calls.new result }
+    ensures reads { FindsAtListsIn S.Store calls.old calls.new result
         (λ now seen. (x : RolloutRecord) → item_numbered now.rollouts number ≡ Some x → stored ≡ stored_rollout x → IsSeenOf seen x) }
-    ensures fails { FailsAtListsIn S.Store change.old change.new result }
-    ensures work { RunsIn 1 change.old change.new }
+    ensures fails { FailsAtListsIn S.Store calls.old calls.new result }
+    ensures work { RunsIn 1 calls.old calls.new }
 {
-    let groups = change.read_groups(number)?;
+    let groups = read_groups(calls, number)?;
     Ok(seen_as(number, stored, groups))
 }
 

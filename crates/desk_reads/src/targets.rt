@@ -10,26 +10,26 @@ ghost use Rattle.desk_reads.specs.Targets.{own_attributes, own_listed, own_tags,
 ghost use Rattle.desk_store.specs.Changing.{FindsIn, StaysIn};
 ghost use Rattle.desk_store.specs.Counting.{RunsIn};
 
-use desk_store::{Fault, ListedTarget, OpenChange, OwnedAttribute, OwnedTag};
+use desk_store::{
+    Calls, Fault, ListedTarget, OwnedAttribute, OwnedTag, read_attributes_between,
+    read_tags_between, read_target_attributes, read_target_tags,
+};
 use rollout_model::{Attributes, ControllerId, Tags, Target, Word};
 use sqlite::Alter;
 use std::alloc::Global;
 use std::cmp::Ordering;
 
 /// A target that was listed, with its tags and its attributes: by two statements.
-pub fn read_listed<S: Alter>(
-    change: &mut OpenChange<'_, S>,
-    listed: ListedTarget,
-) -> Result<Target, Fault>
-    ensures stays { StaysIn S.Store change.old change.new result }
-    ensures reads { FindsIn S.Store change.old change.new result (λ now target. target ≡ target_listed now listed) }
-    ensures fails { FailsAtListsIn S.Store change.old change.new result }
-    ensures work { RunsIn 2 change.old change.new }
+pub fn read_listed<S: Alter>(calls: &mut Calls<S>, listed: ListedTarget) -> Result<Target, Fault>
+    ensures stays { StaysIn S.Store calls.old calls.new result }
+    ensures reads { FindsIn S.Store calls.old calls.new result (λ now target. target ≡ target_listed now listed) }
+    ensures fails { FailsAtListsIn S.Store calls.old calls.new result }
+    ensures work { RunsIn 2 calls.old calls.new }
 {
     let ListedTarget { id, name } = listed;
-    let words = change.read_target_tags(&id)?;
+    let words = read_target_tags(calls, &id)?;
     let tags = tag_list(words)?;
-    let attributes = change.read_target_attributes(&id)?;
+    let attributes = read_target_attributes(calls, &id)?;
     Ok(Target {
         id,
         name,
@@ -41,52 +41,52 @@ pub fn read_listed<S: Alter>(
 /// Targets that were listed in byte order of their ids, with their tags and their attributes: by two statements, which read what all
 /// targets have from the first to the last.
 pub fn read_all_listed<S: Alter>(
-    change: &mut OpenChange<'_, S>,
+    calls: &mut Calls<S>,
     listed: Vec<ListedTarget>,
 ) -> Result<Vec<Target>, Fault>
-    ensures stays { StaysIn S.Store change.old change.new result }
-    ensures reads { FindsIn S.Store change.old change.new result
+    ensures stays { StaysIn S.Store calls.old calls.new result }
+    ensures reads { FindsIn S.Store calls.old calls.new result
         (λ now targets. in_byte_order (listed_ids listed.items) ≡ true → targets.items ≡ map (target_listed now) listed.items) }
-    ensures fails { FailsAtListsIn S.Store change.old change.new result }
-    ensures work { RunsIn 2 change.old change.new }
+    ensures fails { FailsAtListsIn S.Store calls.old calls.new result }
+    ensures work { RunsIn 2 calls.old calls.new }
 {
-    let tags = tags_of_all(change, &listed)?;
-    let attributes = attributes_of_all(change, &listed)?;
-    let targets = with_own(change.alloc(), listed, &tags, &attributes)?;
+    let tags = tags_of_all(calls, &listed)?;
+    let attributes = attributes_of_all(calls, &listed)?;
+    let targets = with_own(calls.alloc(), listed, &tags, &attributes)?;
     Ok(targets)
 }
 
 /// The tags of the targets from the first to the last that were listed: by one statement.
 pub(crate) fn tags_of_all<S: Alter>(
-    change: &mut OpenChange<'_, S>,
+    calls: &mut Calls<S>,
     listed: &[ListedTarget],
 ) -> Result<Vec<OwnedTag>, Fault>
-    ensures stays { StaysIn S.Store change.old change.new result }
-    ensures reads { FindsIn S.Store change.old change.new result (λ now owned. AreTagsLike now [] listed.now owned.items) }
-    ensures fails { FailsAtListsIn S.Store change.old change.new result }
-    ensures work { RunsIn 1 change.old change.new }
+    ensures stays { StaysIn S.Store calls.old calls.new result }
+    ensures reads { FindsIn S.Store calls.old calls.new result (λ now owned. AreTagsLike now [] listed.now owned.items) }
+    ensures fails { FailsAtListsIn S.Store calls.old calls.new result }
+    ensures work { RunsIn 1 calls.old calls.new }
 {
     let Some((first, last)) = ends_of(listed) else {
-        return Ok(Vec::new(change.alloc()));
+        return Ok(Vec::new(calls.alloc()));
     };
-    let owned = change.read_tags_between(&first, &last)?;
+    let owned = read_tags_between(calls, &first, &last)?;
     Ok(owned)
 }
 
 /// Their attributes.
 pub(crate) fn attributes_of_all<S: Alter>(
-    change: &mut OpenChange<'_, S>,
+    calls: &mut Calls<S>,
     listed: &[ListedTarget],
 ) -> Result<Vec<OwnedAttribute>, Fault>
-    ensures stays { StaysIn S.Store change.old change.new result }
-    ensures reads { FindsIn S.Store change.old change.new result (λ now owned. AreAttributesOf now listed.now owned.items) }
-    ensures fails { FailsAtListsIn S.Store change.old change.new result }
-    ensures work { RunsIn 1 change.old change.new }
+    ensures stays { StaysIn S.Store calls.old calls.new result }
+    ensures reads { FindsIn S.Store calls.old calls.new result (λ now owned. AreAttributesOf now listed.now owned.items) }
+    ensures fails { FailsAtListsIn S.Store calls.old calls.new result }
+    ensures work { RunsIn 1 calls.old calls.new }
 {
     let Some((first, last)) = ends_of(listed) else {
-        return Ok(Vec::new(change.alloc()));
+        return Ok(Vec::new(calls.alloc()));
     };
-    let owned = change.read_attributes_between(&first, &last)?;
+    let owned = read_attributes_between(calls, &first, &last)?;
     Ok(owned)
 }
 

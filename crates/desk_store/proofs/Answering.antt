@@ -19,7 +19,7 @@ pub use Rattle.desk_store.proofs.ActionCalls.{entries_read, entry_read}
 pub use Rattle.desk_store.proofs.ArtifactCalls.{piece_read}
 pub use Rattle.desk_store.proofs.BlameLemmas.{unread}
 pub use Rattle.desk_store.proofs.EndLemmas.{commits_as_store, errors_as_store, gives_up_as_store}
-pub use Rattle.desk_store.proofs.FailLemmas.{all_fails, first_fails, first_tells_only, tells_as}
+pub use Rattle.desk_store.proofs.FailLemmas.{all_fails, first_fails, first_tells_only}
 pub use Rattle.desk_store.proofs.GroupOfferCalls.{knows_put_group_offers}
 pub use Rattle.desk_store.proofs.MemberActionCalls.{knows_put_actions}
 pub use Rattle.desk_store.proofs.MemberCalls.{pushed}
@@ -36,7 +36,7 @@ pub use Rattle.desk_store.proofs.ReadLemmas.{all_at, first_at, few_asks, all_rea
 pub use Rattle.desk_store.proofs.ReadLemmas.{reads_one, reads_whether, told_broken}
 pub use Rattle.desk_store.proofs.RolloutCalls.{approval_read, group_and_next_read, never_three_groups, rollout_read, last_read}
 pub use Rattle.desk_store.proofs.RowFails.{approval_fails, count_fails, last_tells_only, last_fails, next_fails, no_action, no_key}
-pub use Rattle.desk_store.proofs.StayLemmas.{put_advances, read_keeps, read_stays}
+pub use Rattle.desk_store.proofs.StayLemmas.{put_advances, read_advances}
 pub use Rattle.desk_store.proofs.TargetCalls.{rows_listed}
 pub use Rattle.desk_store.proofs.WriteCalls.{changes, drops, puts, writes}
 pub use Rattle.desk_records.proofs.ActionMeaning.{entry_columns, listed_columns, of_action, of_rollout}

@@ -1,6 +1,6 @@
 -- What broken rows are blamed on, by what was read before.
 use Rattle.desk_store.proofs.Common.{arith, Result, IfErr, Ok, Ghosts, Fault, Tables, BlamesGiven, FindsTables, HoldsTables, IfRowsBroken, IsUnreadable}
-use Rattle.desk_store.proofs.Common.{HasUnreadable, OpenChange, Reading, ReadsOf, State, Finds, Sees}
+use Rattle.desk_store.proofs.Common.{HasUnreadable, Calls, Reading, ReadsOf, State, Finds, Sees}
 use Rattle.desk_store.specs.Blaming.{HoldsReading}
 use Rattle.desk_store.specs.Unreadable.{place_of}
 use Rattle.desk_store.proofs.ReadLemmas.{first_sees, ask_sees, few_sees, first_keeps, ask_keeps, few_keeps}
@@ -29,7 +29,7 @@ found_reading read = grind (arith, to_tables, of_tables)
 -- ---- what is blamed
 
 -- on what was found
-module _ {S A : Type 0} {g : Ghosts S} {Given : Reading → Type 0} {old new : OpenChange S} where
+module _ {S A : Type 0} {g : Ghosts S} {Given : Reading → Type 0} {old new : Calls S} where
   pub blamed : {B : Type 0} {x : A} {P : Tables → A → Type 0} → FindsTables g {E = Fault} old new (Ok x) P → (out : Result B Fault)
       → IfErr out (λ fault. IfRowsBroken fault ((reading : Reading) → P reading.tables x → Given reading → HasUnreadable reading))
       → BlamesGiven g Given old new out

@@ -86,7 +86,7 @@ pub use Rattle.desk_store.specs.Changing.{FindsTables, seen_in, FindsLedger}
 pub use Rattle.desk_store.specs.GroupPairs.{group_and_next}
 pub use Rattle.desk_store.specs.private.Rows.{AreReadAs, BreaksRule, HasBroken, HasNoNumber, IfRowsBroken, IsApproval, IsCount, IsReadAs, IsBroken}
 pub use Rattle.desk_store.specs.Unreadable.{IsUnreadable, large_number, many_rows}
-pub use Rattle.desk_store.specs.declared.change.OpenChange.{OpenChange}
+pub use Rattle.sql_calls.specs.declared.calls.Calls.{Calls}
 pub use Rattle.desk_store.specs.declared.groups.GroupAndNext.{GroupAndNext}
 pub use Rattle.desk_records.proofs.Meaning.{find_module_is, get_desk_is, get_module_is, last_module_is, put_module_is}
 pub use Rattle.desk_records.proofs.SetMeaning.{find_set_is, get_set_is, last_set_is, list_set_modules_is, module_locked_is, put_set_is, put_set_module_is}

@@ -2,7 +2,7 @@
 use Rattle.desk_store.proofs.Common.{take-append-drop, arith, Place, ◌≡◌, ℕ, inl, List, ◌∷◌, take, drop, map, Option, Some, None, Ok, Result, IfErr, Vec, refl}
 use Rattle.desk_store.proofs.Common.{sym, ap, subst, ◌∙◌, Global, Row, Query, Output, page, Database, Ghosts, Has, has_filtered, Fault, AsksText, TakesFirst}
 use Rattle.desk_store.proofs.Common.{ShowsFirst, first_finds, ask_finds, ordered_rows, passes, shown_in, shown_of, HoldsLedger, Ledger, HoldsTables, Tables}
-use Rattle.desk_store.proofs.Common.{IfRowsBroken, HasBroken, seen_in, OpenChange, State, Finds, Broken, rows_of, has_mapped, FindsLedger, FailsIn}
+use Rattle.desk_store.proofs.Common.{IfRowsBroken, HasBroken, seen_in, Calls, State, Finds, Broken, rows_of, has_mapped, FindsLedger, FailsIn}
 use Rattle.desk_store.proofs.Common.{IsReadable, IsBroken, BreaksColumn, Asks}
 use Rattle.sqlite_rules.proofs.ListLemmas.{has_right, has_front}
 use Rattle.desk_store.specs.Breaking.{BreaksFirst, BreaksOnly, BreaksTo, TellsOnly}
@@ -26,7 +26,7 @@ module _ {B R : Type 0} {Holds : Database → R → Type 0} {Given Why : R → T
       → BreaksTo Holds Given Why old new out
   tells_as so out told = grind arith
 
-module _ {S A B R : Type 0} {g : Ghosts S} {Holds : Database → R → Type 0} {Given Why : R → Type 0} {old new : OpenChange S} {x : A} {P : R → A → Type 0} where
+module _ {S A B R : Type 0} {g : Ghosts S} {Holds : Database → R → Type 0} {Given Why : R → Type 0} {old new : Calls S} {x : A} {P : R → A → Type 0} where
   -- what was found leaves no broken row but for this
   pub breaks_by : Finds Holds (λ (r : R). r) {E = Fault} (seen_in g old) (seen_in g new) (Ok x) P → (out : Result B Fault)
       → IfErr out (λ fault. IfRowsBroken fault ((r : R) → P r x → Given r → Why r)) → BreaksOnly g Holds Given Why old new out
@@ -47,7 +47,7 @@ pub broken_so : {B : Type 0} {Spoiled Why : Type 0} → (Spoiled → Why) → (o
 broken_so so out is = grind arith
 
 -- .. at a ledger that can be read
-pub never_by : {S A B : Type 0} {g : Ghosts S} {old new : OpenChange S} {x : A} {Spoiled : Type 0}
+pub never_by : {S A B : Type 0} {g : Ghosts S} {old new : Calls S} {x : A} {Spoiled : Type 0}
     → FindsLedger g {E = Fault} old new (Ok x) (λ l u. IsReadable l → Spoiled → ⊥) → (out : Result B Fault)
     → IfErr out (λ fault. IfRowsBroken fault Spoiled) → FailsIn g old new out
 never_by read out broken = breaks_by read out (broken_so (λ is l never readable. never readable is) out broken)
@@ -101,7 +101,7 @@ module _ {p : Place} {sql : List ℕ} {query : ℕ → Query} {names : List (Lis
         go db l holds None shown keeps b = b
         go db l holds (Some x) shown keeps b = kept db l holds (x ∷ shown.0) shown.1 keeps x (inl refl) b
 
-    module _ {S B : Type 0} {g : Ghosts S} {old new : OpenChange S} where
+    module _ {S B : Type 0} {g : Ghosts S} {old new : Calls S} where
       pub first_fails : {row : Option Row} → TakesFirst (seen_in g old) (seen_in g new) sql params (Ok row) → (out : Result B Fault)
           → IfErr out (λ fault. IfRowsBroken fault (IsBroken is_broken row)) → FailsIn g old new out
       first_fails h out broken = record { to = tells_as (λ l readable. readable.keep p) out (first_tells_only h out broken) }

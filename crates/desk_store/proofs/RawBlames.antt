@@ -7,7 +7,7 @@ use Rattle.desk_store.proofs.Common.{Row, column, Database, Query, Ghosts, lit, 
 use Rattle.desk_store.proofs.Common.{Rollouts, HoldsTables, Tables, are_entries, is_too_long, is_wide, first_broken, number_in, broken_stored_action_column}
 use Rattle.desk_store.proofs.Common.{broken_offer_column, Offer, Column, StoredAction, LAST_ROLLOUT, LIST_PLACES, count_shown, list_places_is, of_rollout}
 use Rattle.desk_store.proofs.Common.{placed_columns, places_query, BlamesGiven, seen_in, HasBroken, HasNoNumber, IfRowsBroken, large_number, many_rows}
-use Rattle.desk_store.proofs.Common.{OpenChange, State, last_rollout_is, HasUnreadable, Reading, ReadsOf, Broken, Asks, Counts, counted_at}
+use Rattle.desk_store.proofs.Common.{Calls, State, last_rollout_is, HasUnreadable, Reading, ReadsOf, Broken, Asks, Counts, counted_at}
 use Rattle.desk_store.proofs.Common.{AsksFew, columns_of_stored_action, page}
 use Rattle.std.proofs.lemmas.List.Filters.{length-filter_both}
 use Rattle.sqlite.specs.Effect.{Reads as Shows}
@@ -30,7 +30,7 @@ module _ {p : Place} {sql : List ℕ} {query : ℕ → Query} {names : List (Lis
   abbrev AreOf : Row → List Row → Tables → Type 0
   AreOf params rows t = (shown : Row) → Has rows shown → (row : Row) × Has (t p) row × (shown ≡ shown_of (query 0).project params row)
 
-  module _ {S B : Type 0} {g : Ghosts S} {Given : Reading → Type 0} (is_broken : Row → Type 0) {old new : OpenChange S} where
+  module _ {S B : Type 0} {g : Ghosts S} {Given : Reading → Type 0} (is_broken : Row → Type 0) {old new : Calls S} where
     pub all_blamed : {params : Row} {rows : Vec Row Global} → AsksText (seen_in g old) (seen_in g new) sql params (Ok rows) → (out : Result B Fault)
         → IfErr out (λ fault. IfRowsBroken fault (HasBroken is_broken rows.items)) → ((reading : Reading) (row : Row) → Has (reading.tables p) row
         → is_broken (shown_of (query 0).project params row) → Given reading → HasUnreadable reading) → BlamesGiven g Given old new out
@@ -45,7 +45,7 @@ module _ {p : Place} {sql : List ℕ} {query : ℕ → Query} {names : List (Lis
 module _ {p : Place} {sql : List ℕ} {query : ℕ → Query} {names : List (List ℕ)} (text : Asks p sql query names) {params : Row}
     (whole : (tree : ℕ) (xs : List Row) → page (over query tree) params xs ≡ xs) {passing : Row → Bool}
     (judged : (db : Database) (t : Tables) → HoldsTables db t → (row : Row) → Has (t p) row → passes (query 0).filter params row ≡ passing row) where
-  pub two_blamed : {S B : Type 0} {g : Ghosts S} {Given : Reading → Type 0} {old new : OpenChange S}
+  pub two_blamed : {S B : Type 0} {g : Ghosts S} {Given : Reading → Type 0} {old new : Calls S}
       → AsksFew (seen_in g old) (seen_in g new) sql params 1 (Ok None)
       → ((reading : Reading) → HasTwo (reading.tables p) passing → Given reading → HasUnreadable reading) → BlamesGiven g Given {A = B} old new (Err Broken)
   two_blamed h blames =
@@ -90,7 +90,7 @@ many n size not_small is = grind (arith, nat_tests)
 no_number : (v : Value) → ((n : ℕ) → n < 2 ^ 32 → v ≡ Int (pos n) → ⊥) → number_in v ≡ None
 no_number v unread = grind (arith, and_parts, number_in_good, nat_tests, number_in_is)
 
-module _ {S : Type 0} {g : Ghosts S} {old new : OpenChange S} where
+module _ {S : Type 0} {g : Ghosts S} {old new : Calls S} where
   pub place_count_blamed : {r : ℕ} {rows : Vec Row Global} → AsksText (seen_in g old) (seen_in g new) LIST_PLACES.now (Int (pos r) ∷ []) (Ok rows)
       → (out : Result ℕ Fault) → IfErr out (λ fault. (fault ≡ Broken) × (2 ^ 32 ≤ length rows.items)) → BlamesGiven g (ReadsOf Members) old new out
   place_count_blamed {r} {rows} h out large =

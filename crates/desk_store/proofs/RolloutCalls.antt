@@ -5,7 +5,7 @@ use Rattle.desk_store.proofs.Common.{option_map, refl, ap, ◌∙◌, Global, Ve
 use Rattle.desk_store.proofs.Common.{item_numbered, GroupRecord, GET_DESK, LAST_ROLLOUT, GET_ROLLOUT, GROUP_AND_NEXT, StoredRollout, HoldsLedger, Ledger}
 use Rattle.desk_store.proofs.Common.{IsLastRow, IsStoredRolloutRow, IsGroupRow, stored_rollout, groups_of, that_reach, last_rollout_is, get_rollout_is}
 use Rattle.desk_store.proofs.Common.{group_and_next_is, lasts_rollout, gets_rollout, shown_group, gets_group_and_next, group_and_next, GroupAndNext, IsApproval}
-use Rattle.desk_store.proofs.Common.{IsReadAs, gets_desk, told_desk, get_desk_is, AsksFew, Broken, FailsIn, Ghosts, None, OpenChange, length-map, seen_in}
+use Rattle.desk_store.proofs.Common.{IsReadAs, gets_desk, told_desk, get_desk_is, AsksFew, Broken, FailsIn, Ghosts, None, Calls, length-map, seen_in}
 use Rattle.std.specs.Prelude.{Err}
 use Rattle.std.proofs.lemmas.List.{length-take}
 use Rattle.sqlite.proofs.MarkLemmas.{slice_get-take}
@@ -60,7 +60,7 @@ group_and_next_read number place least {rows = rows} = all_tell (in_ledgers (kno
 
 -- .. so there are no more than two
 pub never_three_groups : (number place : ℕ) → 1 ≤ number → {given : Row} → given ≡ Int (pos number) ∷ Int (pos place) ∷ [] → {S B : Type 0} {g : Ghosts S}
-    {old new : OpenChange S} → AsksFew (seen_in g old) (seen_in g new) GROUP_AND_NEXT.now given 2 (Ok None) → FailsIn g {A = B} old new (Err Broken)
+    {old new : Calls S} → AsksFew (seen_in g old) (seen_in g new) GROUP_AND_NEXT.now given 2 (Ok None) → FailsIn g {A = B} old new (Err Broken)
 never_three_groups number place least same h =
     let many = many_asks h in
     never_by {Spoiled = Unit {0}} (all_tell (in_ledgers (known group_and_next_is)) {Read = λ u. Unit {0}}

@@ -2,7 +2,7 @@
 use Rattle.desk_store.proofs.FailLemmas.{breaks_first_by, told_alone, broken_so, first_tells_only, never_by, tables_of, tells_as}
 use Rattle.desk_store.proofs.Common.{◌≡◌, ◌⊎◌, ◌≤◌, ◌<◌, ◌^◌, ◌+◌, ℕ, suc, min, length, pos, Bool, true, false, List, [], ◌∷◌, Option, Some, None, option_map}
 use Rattle.desk_store.proofs.Common.{Ok, Result, IfErr, arith, is_some, Value, Int, Text, Row, column, has_size, Fault, TakesFirst, first_finds, shown_of}
-use Rattle.desk_store.proofs.Common.{Ghosts, HoldsLedger, Ledger, IfRowsBroken, HasNoNumber, BreaksRule, broken_offer_column, is_number, seen_in, OpenChange}
+use Rattle.desk_store.proofs.Common.{Ghosts, HoldsLedger, Ledger, IfRowsBroken, HasNoNumber, BreaksRule, broken_offer_column, is_number, seen_in, Calls}
 use Rattle.desk_store.proofs.Common.{State, Actions, inr, number_in}
 use Rattle.desk_store.proofs.Common.{COUNT_TARGETS, GET_DESK, NEXT_OFFER, Targets, get_desk_is, count_targets_is, counted_at, Place, Query, shown_offer, Broken}
 use Rattle.desk_store.proofs.Common.{nat_tests, Offer, Bytes, ActionRecord, next_offer, gets_desk, told_desk, rows_of, gets_next_offer, is_number_in}
@@ -39,7 +39,7 @@ module _ {p : Place} {sql : List ℕ} {query : ℕ → Query} {names : List (Lis
   last_tells_only {row = row} h out broken = first_tells_only text (λ r. HasNoNumber (Some r)) rule h out
       (broken_so {Spoiled = HasNoNumber row} {Why = IsBroken (λ r. HasNoNumber (Some r)) row} (λ is. grind arith) out broken)
 
-  pub last_fails : {S : Type 0} {g : Ghosts S} {old new : OpenChange S} {row : Option Row} → TakesFirst (seen_in g old) (seen_in g new) sql params (Ok row)
+  pub last_fails : {S : Type 0} {g : Ghosts S} {old new : Calls S} {row : Option Row} → TakesFirst (seen_in g old) (seen_in g new) sql params (Ok row)
       → (out : Result ℕ Fault) → IfErr out (λ fault. IfRowsBroken fault (HasNoNumber row)) → FailsIn g old new out
   last_fails h out broken = record { to = tells_as (λ l readable. readable.keep p) out (last_tells_only h out broken) }
 
@@ -69,7 +69,7 @@ never_next : (wanted : Option Offer) (row : Option Row) → row ≡ option_map s
     → IsBroken (λ r. BreaksRule (broken_offer_column r)) row → ⊥
 never_next wanted row is good broken = grind (arith, is_number_in, is_some)
 
-module _ {S : Type 0} {g : Ghosts S} {old new : OpenChange S} {row : Option Row} where
+module _ {S : Type 0} {g : Ghosts S} {old new : Calls S} {row : Option Row} where
   pub count_fails : TakesFirst (seen_in g old) (seen_in g new) COUNT_TARGETS.now [] (Ok row) → (out : Result ℕ Fault)
       → IfErr out (λ fault. IfRowsBroken fault ((row ≡ None) ⊎ HasNoNumber row)) → FailsIn g old new out
   count_fails h = never_by (first_finds HoldsLedger (λ (l : Ledger). l) COUNT_TARGETS.now [] (seen_in g old) (seen_in g new) _

@@ -1,23 +1,19 @@
 -- What a call leaves that a migration makes too.
 use Rattle.desk_store.proofs.Common.{◌≡◌, ℕ, List, Option, Ok, IfOk, Sees, Result, Row, arith, refl, sym, subst, Database, State, Fault, RunsText, TakesFirst}
 use Rattle.desk_store.proofs.Common.{Knows}
-use Rattle.desk_store.proofs.Common.{HoldsLedger, HoldsTables, Place}
+use Rattle.desk_store.proofs.Common.{HoldsTables, Place}
 use Rattle.std.specs.Prelude.{Err, IsErr}
 use Rattle.sqlite.specs.Effect.{IsDatabase}
 use Rattle.sqlite.specs.Source.{Source}
-use Rattle.sqlite.specs.Store.{Ghosts}
-use Rattle.sql_calls.specs.Calls.{Grows, failures_in}
 use Rattle.sql_calls.specs.Standing.{Advances}
-use Rattle.sql_calls.specs.declared.calls.Calls.{Calls}
-use Rattle.sql_calls.proofs.Framing.{first_frames, vain, wrote_rows}
+use Rattle.sql_calls.proofs.Framing.{wrote_rows}
 use Rattle.sql_calls.proofs.Leavings.{crash_kept, never_shows_inside}
 use Rattle.sql_calls.proofs.Stepping.{ran}
 use Rattle.sql_front.specs.Stands.{Stands}
 use Rattle.desk_records.proofs.MeaningWords.{Puts, put_at}
 use Rattle.desk_records.specs.Schema.{name_of, table_at}
-use Rattle.desk_store.specs.Changing.{KeepsSeenTables}
-use Rattle.desk_store.specs.Sharing.{HasTables, Stays, seen_by}
-use Rattle.desk_store.proofs.Known.{in_ledgers, tables_know}
+use Rattle.desk_store.specs.Sharing.{HasTables}
+use Rattle.desk_store.proofs.Known.{tables_know}
 use Rattle.desk_store.proofs.ReadLemmas.{first_sees}
 
 -- ---- a query, whatever its first row is read as
@@ -32,19 +28,9 @@ read_sees Holds {params = params} {old = old} {new = new} knows (Ok row) h (Ok a
 read_sees Holds knows (Err fault) h (Ok a) bad r = absurd (let it = bad refl in cc)
 read_sees Holds knows taken h (Err e) bad r = tt
 
-pub read_keeps : {sql : List ℕ} {params : Row} {old new : State} → Knows HoldsTables sql → {taken : Result (Option Row) Fault}
-    → TakesFirst old new sql params taken → {A : Type 0} (out : Result A Fault) → (IsErr taken → IsErr out) → KeepsSeenTables old new out
-read_keeps knows {taken} h (Ok a) bad = read_sees HoldsTables knows taken h (Ok a) bad
-read_keeps knows h (Err e) bad = tt
-
-module _ {S : Type 0} {g : Ghosts S} {old new : Calls S} {sql : List ℕ} {params : Row} (knows : Knows HoldsTables sql) {taken : Result (Option Row) Fault}
-    (h : TakesFirst (seen_by g old) (seen_by g new) sql params taken) {A : Type 0} (out : Result A Fault) (bad : IsErr taken → IsErr out) where
-  pub read_stays : Grows (failures_in out) old new → Stays g old new out
-  read_stays grows = record {
-    grows = grows;
-    frame = let frame = first_frames HoldsLedger sql params (seen_by g old) (seen_by g new) (in_ledgers knows) taken h in grind (arith, vain);
-    advances = let seen = read_sees HasTables (any_tables knows) taken h out bad tt in grind (arith, crash_kept, never_shows_inside);
-  }
+pub read_advances : {sql : List ℕ} {params : Row} {old new : State} → Knows HoldsTables sql → {taken : Result (Option Row) Fault}
+    → TakesFirst old new sql params taken → {A : Type 0} (out : Result A Fault) → (IsErr taken → IsErr out) → Advances HasTables tt tt old new out
+read_advances knows {taken} h out bad = let seen = read_sees HasTables (any_tables knows) taken h out bad tt in grind (arith, crash_kept, never_shows_inside)
 
 -- ---- a statement that adds a row
 

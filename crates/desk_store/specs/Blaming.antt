@@ -2,12 +2,12 @@
 use Rattle.std.specs.Prelude.{◌≡◌, ◌<◌, ◌≤◌, ◌-◌, ◌^◌, ◌⊎◌, ℕ, Bool, true, Result}
 use Rattle.sqlite.specs.Effect.{Database}
 use Rattle.sqlite.specs.Store.{Ghosts}
+use Rattle.sql_calls.specs.declared.calls.Calls.{Calls}
 use Rattle.sql_calls.specs.declared.fault.Fault.{Fault}
 use Rattle.desk_records.specs.Schema.{Place}
 use Rattle.desk_records.specs.Tables.{HoldsTables, Tables}
 use Rattle.desk_store.specs.Breaking.{BreaksOnly}
 use Rattle.desk_store.specs.Unreadable.{IsUnreadableIn}
-use Rattle.desk_store.specs.declared.change.OpenChange.{OpenChange}
 
 -- more calls of the store failed than before, or as many as are counted
 abbrev pub HasFailed : ℕ → ℕ → Type 0
@@ -36,9 +36,9 @@ HasUnreadable reading = IsUnreadableIn reading.reads reading.tables
 
 module _ {S : Type 0} (g : Ghosts S) where
   -- What a caller gives is which tables are read, and what else it knows of them.
-  abbrev pub BlamesGiven : (Reading → Type 0) → {A : Type 0} → OpenChange S → OpenChange S → Result A Fault → Type 0
+  abbrev pub BlamesGiven : (Reading → Type 0) → {A : Type 0} → Calls S → Calls S → Result A Fault → Type 0
   BlamesGiven Given = BreaksOnly g HoldsReading Given HasUnreadable
 
   -- whatever is read
-  abbrev pub Blames : {A : Type 0} → OpenChange S → OpenChange S → Result A Fault → Type 0
+  abbrev pub Blames : {A : Type 0} → Calls S → Calls S → Result A Fault → Type 0
   Blames = BlamesGiven (λ reading. Unit {0})

@@ -4,10 +4,10 @@ use Rattle.sqlite.specs.Store.{Ghosts}
 use Rattle.sqlite.specs.Effect.{Database}
 use Rattle.sqlite.specs.State.{State, HasCleanDisk}
 use Rattle.sql_calls.specs.Standing.{Sees}
+use Rattle.sql_calls.specs.declared.calls.Calls.{Calls}
 use Rattle.sql_calls.specs.declared.fault.Fault.{Fault}
 use Rattle.sql_calls.specs.declared.fault.Fault.TheVariants.{Broken}
 use Rattle.desk_store.specs.Changing.{seen_in}
-use Rattle.desk_store.specs.declared.change.OpenChange.{OpenChange}
 
 -- broken rows are told for this alone
 pub record HasReason (new : State) (Why : Type 0) (fault : Fault) : Type 0 where
@@ -38,12 +38,12 @@ module _ {R : Type 0} (Holds : Database → R → Type 0) (Given Why : R → Typ
 -- ---- in a change
 
 module _ {S : Type 0} (g : Ghosts S) where
-  pub record NeverBreaks {A : Type 0} (new : OpenChange S) (result : Result A Fault) : Type 0 where
+  pub record NeverBreaks {A : Type 0} (new : Calls S) (result : Result A Fault) : Type 0 where
     pub to : SoundTo (seen_in g new) result
 
   module _ {R : Type 0} (Holds : Database → R → Type 0) (Given Why : R → Type 0) where
-    pub record BreaksOnly {A : Type 0} (old new : OpenChange S) (result : Result A Fault) : Type 0 where
+    pub record BreaksOnly {A : Type 0} (old new : Calls S) (result : Result A Fault) : Type 0 where
       pub to : BreaksTo Holds Given Why (seen_in g old) (seen_in g new) result
 
-    pub record BreaksFirst {A : Type 0} (old new : OpenChange S) (result : Result A Fault) : Type 0 where
+    pub record BreaksFirst {A : Type 0} (old new : Calls S) (result : Result A Fault) : Type 0 where
       pub to : BreaksFirstTo Holds Given Why (seen_in g old) (seen_in g new) result

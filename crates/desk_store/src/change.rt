@@ -8,9 +8,8 @@ ghost use Rattle.desk_records.specs.Holds.{HoldsLedger};
 
 use crate::reading::finished;
 use crate::store::DeskStore;
-use sql_calls::Fault;
+use sql_calls::{Calls, Fault};
 use sqlite::Alter;
-use std::alloc::Global;
 
 /// A change that is under way. It has to be spent by `commit` or `give_up`, and after a call that failed by `give_up`.
 pub struct OpenChange<'a, S: Alter> {
@@ -18,9 +17,16 @@ pub struct OpenChange<'a, S: Alter> {
 }
 
 impl<'a, S: Alter> OpenChange<'a, S> {
-    /// What memory is taken from.
-    pub fn alloc(&self) -> Global {
-        self.store.alloc
+    ghost use Rattle.std.specs.Borrow.{sem};
+    ghost use Rattle.desk_store.specs.Lending.{change_lends};
+
+    /// The calls of its connection, by which it is read and written.
+    pub fn calls(&mut self) -> &mut Calls<S>
+        ensures* lends { sem 𝓛 (change_lends S.row S.Store self.entry result) }
+        ensures calls { result.now ≡ self.old.store.now.calls }
+    {
+        let store = &mut *self.store;
+        &mut store.calls
     }
 
     /// Commits the change. At `Ok` every crash leaves it, and at `Err`, which is `Store`, it or the records before it.

@@ -11,55 +11,60 @@ ghost use Rattle.desk_store.specs.Counting.{AddsIn, RunsIn};
 ghost use Rattle.desk_store.specs.Failing.{FailsIn, WritesIn};
 ghost use Rattle.desk_store.specs.RawLists.{SaysNumber};
 
-use crate::change::OpenChange;
 use crate::reading::{last_number, read_all, read_optional};
+use crate::statements::{ask, first, run};
 use desk_records::{LAST_NUMBER, LIST_NUMBERS, LastNumber, PUT_NUMBER, PlacedNumber};
 use rollout_model::ActionNo;
-use sql_calls::Fault;
+use sql_calls::{Calls, Fault};
 use sqlite::{Alter, params};
 
-impl<'a, S: Alter> OpenChange<'a, S> {
-    /// The last number of an action, with its place among those of the action. A row that breaks a column's rule is `Broken`.
-    pub fn read_last_number(&mut self, action: ActionNo) -> Result<Option<LastNumber>, Fault>
-        ensures stays { StaysIn S.Store self.old self.new result }
-        ensures reads { FindsLedger S.Store self.old self.new result (λ l found. found ≡ last_number (numbers_numbered l.numbers action)) }
-        ensures fails { FailsIn S.Store self.old self.new result }
-        ensures work { AddsIn 1 1 self.old self.new }
-    {
-        let alloc = self.store.alloc;
-        let row = self.first(LAST_NUMBER, params![action.get()])?;
-        read_optional(alloc, row)
-    }
+/// The last number of an action, with its place among those of the action. A row that breaks a column's rule is `Broken`.
+pub fn read_last_number<S: Alter>(
+    calls: &mut Calls<S>,
+    action: ActionNo,
+) -> Result<Option<LastNumber>, Fault>
+    ensures stays { StaysIn S.Store calls.old calls.new result }
+    ensures reads { FindsLedger S.Store calls.old calls.new result (λ l found. found ≡ last_number (numbers_numbered l.numbers action)) }
+    ensures fails { FailsIn S.Store calls.old calls.new result }
+    ensures work { AddsIn 1 1 calls.old calls.new }
+{
+    let alloc = calls.alloc();
+    let row = first(calls, LAST_NUMBER, params![action.get()])?;
+    read_optional(alloc, row)
+}
 
-    /// The numbers of an action, in the order of their places; none where there is no such action. Whatever rows there are, they are all that
-    /// the action has, and one that breaks a column's rule is `Broken`.
-    pub fn read_numbers(&mut self, action: ActionNo) -> Result<Vec<PlacedNumber>, Fault>
-        ensures stays { StaysIn S.Store self.old self.new result }
-        ensures reads { FindsLedger S.Store self.old self.new result (λ l found. found.items ≡ numbers_numbered l.numbers action) }
-        ensures tells { FindsTables S.Store self.old self.new result (λ t found. AreSaid (t Numbers) (has_at 1 action) SaysNumber found.items) }
-        ensures fails { FailsIn S.Store self.old self.new result }
-        ensures blames { BlamesGiven S.Store (ReadsOf Numbers) self.old self.new result }
-        ensures work { RunsIn 1 self.old self.new }
-    {
-        let alloc = self.store.alloc;
-        let rows = self.ask(LIST_NUMBERS, params![action.get()])?;
-        read_all(alloc, &rows)
-    }
+/// The numbers of an action, in the order of their places; none where there is no such action. Whatever rows there are, they are all that
+/// the action has, and one that breaks a column's rule is `Broken`.
+pub fn read_numbers<S: Alter>(
+    calls: &mut Calls<S>,
+    action: ActionNo,
+) -> Result<Vec<PlacedNumber>, Fault>
+    ensures stays { StaysIn S.Store calls.old calls.new result }
+    ensures reads { FindsLedger S.Store calls.old calls.new result (λ l found. found.items ≡ numbers_numbered l.numbers action) }
+    ensures tells { FindsTables S.Store calls.old calls.new result (λ t found. AreSaid (t Numbers) (has_at 1 action) SaysNumber found.items) }
+    ensures fails { FailsIn S.Store calls.old calls.new result }
+    ensures blames { BlamesGiven S.Store (ReadsOf Numbers) calls.old calls.new result }
+    ensures work { RunsIn 1 calls.old calls.new }
+{
+    let alloc = calls.alloc();
+    let rows = ask(calls, LIST_NUMBERS, params![action.get()])?;
+    read_all(alloc, &rows)
+}
 
-    /// Adds a number to those of an action that is there, at their next place.
-    pub fn write_number(
-        &mut self,
-        action: ActionNo,
-        place: u32,
-        it: &PlacedNumber,
-    ) -> Result<(), Fault>
-        ensures stays { WritesIn S.Store self.old self.new result }
-        ensures writes { MakesLedger S.Store self.old self.new result (AddsNumber action place it.now) }
-        ensures work { AddsIn 1 0 self.old self.new }
-    {
-        self.run(
-            PUT_NUMBER,
-            params![action.get(), place, it.sequence, it.number.get()],
-        )
-    }
+/// Adds a number to those of an action that is there, at their next place.
+pub fn write_number<S: Alter>(
+    calls: &mut Calls<S>,
+    action: ActionNo,
+    place: u32,
+    it: &PlacedNumber,
+) -> Result<(), Fault>
+    ensures stays { WritesIn S.Store calls.old calls.new result }
+    ensures writes { MakesLedger S.Store calls.old calls.new result (AddsNumber action place it.now) }
+    ensures work { AddsIn 1 0 calls.old calls.new }
+{
+    run(
+        calls,
+        PUT_NUMBER,
+        params![action.get(), place, it.sequence, it.number.get()],
+    )
 }

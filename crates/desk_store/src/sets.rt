@@ -12,99 +12,117 @@ ghost use Rattle.desk_store.specs.Counting.{AddsIn, RunsIn};
 ghost use Rattle.desk_store.specs.Changing.{FindsIn, KeepsTables, MakesIn, StaysIn};
 ghost use Rattle.desk_store.specs.Failing.{FailsIn, WritesIn};
 
-use crate::change::OpenChange;
 use crate::reading::{last_number, read_all, read_optional};
+use crate::statements::{ask, first, run};
 use desk_records::{
     FIND_SET, GET_SET, LAST_SET, LIST_SET_MODULES, MODULE_LOCKED, PUT_SET, PUT_SET_MODULE, SetName,
 };
 use rollout_model::{ModuleNo, SetNo, Text};
-use sql_calls::Fault;
+use sql_calls::{Calls, Fault};
 use sqlite::{Alter, params};
 
-impl<'a, S: Alter> OpenChange<'a, S> {
-    /// Whether there is a set of the same name and version.
-    pub fn read_same_set(&mut self, name: &Text, version: &Text) -> Result<bool, Fault>
-        ensures stays { StaysIn S.Store self.old self.new result }
-        ensures reads { FindsIn S.Store self.old self.new result (λ r found. found ≡ list_any (is_same_set name.now version.now) r.sets) }
-        ensures fails { FailsIn S.Store self.old self.new result }
-        ensures work { AddsIn 1 1 self.old self.new }
-    {
-        let row = self.first(FIND_SET, params![name.as_str(), version.as_str()])?;
-        Ok(row.is_some())
-    }
+/// Whether there is a set of the same name and version.
+pub fn read_same_set<S: Alter>(
+    calls: &mut Calls<S>,
+    name: &Text,
+    version: &Text,
+) -> Result<bool, Fault>
+    ensures stays { StaysIn S.Store calls.old calls.new result }
+    ensures reads { FindsIn S.Store calls.old calls.new result (λ r found. found ≡ list_any (is_same_set name.now version.now) r.sets) }
+    ensures fails { FailsIn S.Store calls.old calls.new result }
+    ensures work { AddsIn 1 1 calls.old calls.new }
+{
+    let row = first(calls, FIND_SET, params![name.as_str(), version.as_str()])?;
+    Ok(row.is_some())
+}
 
-    /// The number of the last set, which is how many there are.
-    pub fn read_last_set(&mut self) -> Result<u32, Fault>
-        ensures stays { StaysIn S.Store self.old self.new result }
-        ensures reads { FindsIn S.Store self.old self.new result (λ r last. last ≡ length r.sets) }
-        ensures fails { FailsIn S.Store self.old self.new result }
-        ensures work { AddsIn 1 1 self.old self.new }
-    {
-        let row = self.first(LAST_SET, &[])?;
-        last_number(row)
-    }
+/// The number of the last set, which is how many there are.
+pub fn read_last_set<S: Alter>(calls: &mut Calls<S>) -> Result<u32, Fault>
+    ensures stays { StaysIn S.Store calls.old calls.new result }
+    ensures reads { FindsIn S.Store calls.old calls.new result (λ r last. last ≡ length r.sets) }
+    ensures fails { FailsIn S.Store calls.old calls.new result }
+    ensures work { AddsIn 1 1 calls.old calls.new }
+{
+    let row = first(calls, LAST_SET, &[])?;
+    last_number(row)
+}
 
-    /// What the set of a number is called. A row that breaks a column's rule is `Broken`.
-    pub fn read_set(&mut self, number: SetNo) -> Result<Option<SetName>, Fault>
-        ensures stays { StaysIn S.Store self.old self.new result }
-        ensures reads { FindsIn S.Store self.old self.new result (λ r found. found ≡ option_map called (item_numbered r.sets number)) }
-        ensures fails { FailsIn S.Store self.old self.new result }
-        ensures work { AddsIn 1 1 self.old self.new }
-    {
-        let alloc = self.store.alloc;
-        let row = self.first(GET_SET, params![number.get()])?;
-        read_optional(alloc, row)
-    }
+/// What the set of a number is called. A row that breaks a column's rule is `Broken`.
+pub fn read_set<S: Alter>(calls: &mut Calls<S>, number: SetNo) -> Result<Option<SetName>, Fault>
+    ensures stays { StaysIn S.Store calls.old calls.new result }
+    ensures reads { FindsIn S.Store calls.old calls.new result (λ r found. found ≡ option_map called (item_numbered r.sets number)) }
+    ensures fails { FailsIn S.Store calls.old calls.new result }
+    ensures work { AddsIn 1 1 calls.old calls.new }
+{
+    let alloc = calls.alloc();
+    let row = first(calls, GET_SET, params![number.get()])?;
+    read_optional(alloc, row)
+}
 
-    /// The modules of the set of a number, in its order; of a set that isn't there none.
-    pub fn read_set_modules(&mut self, number: SetNo) -> Result<Vec<ModuleNo>, Fault>
-        ensures stays { StaysIn S.Store self.old self.new result }
-        ensures keeps { KeepsTables S.Store self.old self.new result }
-        ensures reads { FindsIn S.Store self.old self.new result (λ r modules. modules.items ≡ modules_of_set (item_numbered r.sets number)) }
-        ensures fails { FailsIn S.Store self.old self.new result }
-        ensures work { RunsIn 1 self.old self.new }
-    {
-        let alloc = self.store.alloc;
-        let rows = self.ask(LIST_SET_MODULES, params![number.get()])?;
-        read_all(alloc, &rows)
-    }
+/// The modules of the set of a number, in its order; of a set that isn't there none.
+pub fn read_set_modules<S: Alter>(
+    calls: &mut Calls<S>,
+    number: SetNo,
+) -> Result<Vec<ModuleNo>, Fault>
+    ensures stays { StaysIn S.Store calls.old calls.new result }
+    ensures keeps { KeepsTables S.Store calls.old calls.new result }
+    ensures reads { FindsIn S.Store calls.old calls.new result (λ r modules. modules.items ≡ modules_of_set (item_numbered r.sets number)) }
+    ensures fails { FailsIn S.Store calls.old calls.new result }
+    ensures work { RunsIn 1 calls.old calls.new }
+{
+    let alloc = calls.alloc();
+    let rows = ask(calls, LIST_SET_MODULES, params![number.get()])?;
+    read_all(alloc, &rows)
+}
 
-    /// Whether a set names the module of a number, so that the module takes no further artifact.
-    pub fn read_module_is_locked(&mut self, number: ModuleNo) -> Result<bool, Fault>
-        ensures stays { StaysIn S.Store self.old self.new result }
-        ensures reads { FindsIn S.Store self.old self.new result (λ r locked. locked ≡ is_named_by_set r.sets number) }
-        ensures fails { FailsIn S.Store self.old self.new result }
-        ensures work { AddsIn 1 1 self.old self.new }
-    {
-        let row = self.first(MODULE_LOCKED, params![number.get()])?;
-        Ok(row.is_some())
-    }
+/// Whether a set names the module of a number, so that the module takes no further artifact.
+pub fn read_module_is_locked<S: Alter>(
+    calls: &mut Calls<S>,
+    number: ModuleNo,
+) -> Result<bool, Fault>
+    ensures stays { StaysIn S.Store calls.old calls.new result }
+    ensures reads { FindsIn S.Store calls.old calls.new result (λ r locked. locked ≡ is_named_by_set r.sets number) }
+    ensures fails { FailsIn S.Store calls.old calls.new result }
+    ensures work { AddsIn 1 1 calls.old calls.new }
+{
+    let row = first(calls, MODULE_LOCKED, params![number.get()])?;
+    Ok(row.is_some())
+}
 
-    /// Adds the set of the next number, with no modules yet.
-    pub fn write_set(&mut self, number: SetNo, name: &Text, version: &Text) -> Result<(), Fault>
-        ensures stays { WritesIn S.Store self.old self.new result }
-        ensures writes { MakesIn S.Store self.old self.new result
-            (λ r next. (number ≡ length r.sets + 1) × (next ≡ with_set r name.now version.now)) }
-        ensures work { AddsIn 1 0 self.old self.new }
-    {
-        self.run(
-            PUT_SET,
-            params![number.get(), name.as_str(), version.as_str()],
-        )
-    }
+/// Adds the set of the next number, with no modules yet.
+pub fn write_set<S: Alter>(
+    calls: &mut Calls<S>,
+    number: SetNo,
+    name: &Text,
+    version: &Text,
+) -> Result<(), Fault>
+    ensures stays { WritesIn S.Store calls.old calls.new result }
+    ensures writes { MakesIn S.Store calls.old calls.new result
+        (λ r next. (number ≡ length r.sets + 1) × (next ≡ with_set r name.now version.now)) }
+    ensures work { AddsIn 1 0 calls.old calls.new }
+{
+    run(
+        calls,
+        PUT_SET,
+        params![number.get(), name.as_str(), version.as_str()],
+    )
+}
 
-    /// Adds a module to the last set, at its next place; places are counted from 1.
-    pub fn write_set_module(
-        &mut self,
-        number: SetNo,
-        place: u32,
-        added: ModuleNo,
-    ) -> Result<(), Fault>
-        ensures stays { WritesIn S.Store self.old self.new result }
-        ensures writes { MakesIn S.Store self.old self.new result
-            (AddsSetModule number place added) }
-        ensures work { AddsIn 1 0 self.old self.new }
-    {
-        self.run(PUT_SET_MODULE, params![number.get(), place, added.get()])
-    }
+/// Adds a module to the last set, at its next place; places are counted from 1.
+pub fn write_set_module<S: Alter>(
+    calls: &mut Calls<S>,
+    number: SetNo,
+    place: u32,
+    added: ModuleNo,
+) -> Result<(), Fault>
+    ensures stays { WritesIn S.Store calls.old calls.new result }
+    ensures writes { MakesIn S.Store calls.old calls.new result
+        (AddsSetModule number place added) }
+    ensures work { AddsIn 1 0 calls.old calls.new }
+{
+    run(
+        calls,
+        PUT_SET_MODULE,
+        params![number.get(), place, added.get()],
+    )
 }

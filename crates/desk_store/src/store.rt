@@ -17,7 +17,6 @@ use std::alloc::Global;
 #[derive(Drop)]
 pub struct DeskStore<S: Alter> {
     pub(crate) calls: Calls<S>,
-    pub(crate) alloc: Global,
 }
 
 impl<S: Alter> DeskStore<S> {
@@ -27,8 +26,7 @@ impl<S: Alter> DeskStore<S> {
         ensures work { result.calls.work ≡ no_work }
     {
         DeskStore {
-            calls: Calls::new(conn),
-            alloc,
+            calls: Calls::new(alloc, conn),
         }
     }
 
@@ -43,7 +41,7 @@ impl<S: Alter> DeskStore<S> {
     pub fn into_connection(self) -> Connection<S>
         ensures { result ≡ self.calls.conn }
     {
-        let DeskStore { calls, .. } = self;
+        let DeskStore { calls } = self;
         calls.into_connection()
     }
 

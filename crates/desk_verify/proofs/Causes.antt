@@ -12,8 +12,9 @@ use Rattle.std.specs.Ordering.{is_eq}
 use Rattle.std.proofs.Common.{IsErrAnd}
 use Rattle.sqlite.specs.Store.{Ghosts}
 use Rattle.desk_store.specs.Blaming.{HasUnreadable, Reading}
+use Rattle.desk_store.specs.Changing.{StaysIn}
 use Rattle.desk_store.specs.Unreadable.{HasTwins}
-use Rattle.desk_store.specs.declared.change.OpenChange.{OpenChange}
+use Rattle.sql_calls.specs.declared.calls.Calls.{Calls}
 use Rattle.desk_store.proofs.BlameLemmas.{found_reading, of_tables}
 use Rattle.desk_verify.specs.Checking.{ChecksTable}
 use Rattle.desk_verify.specs.private.RolloutChecks.{ReadsUpTo}
@@ -27,7 +28,7 @@ use Rattle.desk_verify.proofs.GroupLaw.{one_rowid}
 -- ---- what is given
 
 -- what is given to a call is known by what was read before it
-pub blamed_when : {S A B C : Type 0} {g : Ghosts S} {Given G : Reading → Type 0} {old mid new : OpenChange S} {x : A} {P : Tables → A → Type 0}
+pub blamed_when : {S A B C : Type 0} {g : Ghosts S} {Given G : Reading → Type 0} {old mid new : Calls S} {x : A} {P : Tables → A → Type 0}
     → FindsTables g {E = Fault} old mid (Ok x) P
     → Wears (seen_in g mid) (seen_in g new) → (fault : Fault) → BlamesGiven g G {A = C} mid new (Err fault)
     → ((reading : Reading) → P reading.tables x → Given reading → G reading)
@@ -108,7 +109,7 @@ checks Action t agree = search rules
 checks Offer t agree = search rules
 
 -- those before this one agree, and its check tells broken rows
-pub stops_at : {S A B : Type 0} {g : Ghosts S} {old mid new : OpenChange S} {P : Tables → Type 0} (table : CheckedTable)
+pub stops_at : {S A B : Type 0} {g : Ghosts S} {old mid new : Calls S} {P : Tables → Type 0} (table : CheckedTable)
     → FindsTables g {E = Fault} old mid (Ok (tt {0})) (λ t u. P t) → Wears (seen_in g mid) (seen_in g new) → (fault : Fault)
     → BlamesGiven g (ChecksTable table) {A = A} mid new (Err fault) → ((t : Tables) → P t → AgreeBefore table t)
     → (out : Result B Fault) → IsErrAnd out (λ e. e ≡ fault) → StopsInOrder g old new out
@@ -123,3 +124,14 @@ stops_at {B = B} {g = g} {old = old} {new = new} table read wears fault blames m
             record { table = table; agree = agree; unreadable = (blames.to reading (of_tables reading seen.0) (checks table t agree)).reason broken clean };
       };
     })
+
+-- ---- one call after the other
+
+pub stays_then : {S A B : Type 0} {g : Ghosts S} {a b c : Calls S} {x : A} → StaysIn g a b (Ok x) → (out : Result B Fault) → StaysIn g b c out
+    → StaysIn g a c out
+stays_then first out second = grind arith
+
+-- .. at a `?`
+pub stays_end : {S A B : Type 0} {g : Ghosts S} {a b : Calls S} {fault : Fault} → StaysIn g {A = A} a b (Err fault) → (out : Result B Fault)
+    → IsErrAnd out (λ e. e ≡ fault) → StaysIn g a b out
+stays_end first out is = grind arith

@@ -6,7 +6,7 @@ use Rattle.desk_records.specs.Schema.{Actions, Feedbacks, Groups, Members, Numbe
 use Rattle.desk_records.specs.Tables.{HoldsTables, Tables}
 use Rattle.desk_store.specs.Breaking.{BreaksOnly}
 use Rattle.desk_store.specs.Unreadable.{IsUnreadableIn}
-use Rattle.desk_store.specs.declared.change.OpenChange.{OpenChange}
+use Rattle.sql_calls.specs.declared.calls.Calls.{Calls}
 use Rattle.desk_verify.specs.Agreement.{AgreeBefore}
 use Rattle.desk_verify.specs.declared.damage.CheckedTable.{CheckedTable}
 use Rattle.desk_verify.specs.declared.damage.CheckedTable.TheVariants.{Artifact, Member, RolloutGroup, Action, Offer}
@@ -37,5 +37,5 @@ pub record IsStuck (t : Tables) : Type 0 where
   pub unreadable : IsUnreadableIn (is_read_for table) t
 
 -- broken rows are told only where a check is stuck
-abbrev pub StopsInOrder : {S : Type 0} → Ghosts S → {A : Type 0} → OpenChange S → OpenChange S → Result A Fault → Type 0
+abbrev pub StopsInOrder : {S : Type 0} → Ghosts S → {A : Type 0} → Calls S → Calls S → Result A Fault → Type 0
 StopsInOrder g = BreaksOnly g HoldsTables (λ t. Unit {0}) IsStuck

@@ -14,7 +14,9 @@ ghost use Rattle.desk_verify.specs.private.RolloutChecks.{IsGoneThrough};
 use crate::histories::fit_histories;
 use crate::rollouts::{ByRollout, NumberedRollout, check_rollouts};
 use crate::turns::{are_for, count_on, numbers_rise};
-use desk_store::{Fault, ListedAction, OpenChange, PlacedMember};
+use desk_store::{
+    Calls, Fault, ListedAction, PlacedMember, count_actions, list_all_actions, list_places,
+};
 use rollout_model::RolloutNo;
 use sqlite::Alter;
 
@@ -34,34 +36,34 @@ impl<S: Alter> ByRollout<S> for Actions {
     ghost given = { ChecksActions };
 
     fn check_rollout(
-        change: &mut OpenChange<'_, S>,
+        calls: &mut Calls<S>,
         rollout: &NumberedRollout,
     ) -> Result<Option<usize>, Fault> {
-        let Some(actions) = actions_of(change, rollout.number)? else {
+        let Some(actions) = actions_of(calls, rollout.number)? else {
             return Ok(None);
         };
         if !rollout.rollout.started {
             return Ok(count_none(&actions));
         }
-        let members = members_of(change, rollout.number)?;
+        let members = members_of(calls, rollout.number)?;
         if !are_for(&members, &actions) {
             return Ok(None);
         }
-        let fit = fit_histories(change, &actions)?;
+        let fit = fit_histories(calls, &actions)?;
         Ok(fit.then_some(actions.len()))
     }
 }
 
 /// Whether the table of actions agrees. A number of their feedback that breaks a rule is `Broken`.
-pub(crate) fn check_actions<S: Alter>(change: &mut OpenChange<'_, S>) -> Result<bool, Fault>
-    ensures stays { StaysIn S.Store change.old change.new result }
-    ensures judges { FindsTables S.Store change.old change.new result (λ t agrees. Settles (PassesActions t) (AgreesActions t) agrees) }
-    ensures blames { BlamesGiven S.Store (IsGoneThrough schema.Actions ChecksActions) change.old change.new result }
+pub(crate) fn check_actions<S: Alter>(calls: &mut Calls<S>) -> Result<bool, Fault>
+    ensures stays { StaysIn S.Store calls.old calls.new result }
+    ensures judges { FindsTables S.Store calls.old calls.new result (λ t agrees. Settles (PassesActions t) (AgreesActions t) agrees) }
+    ensures blames { BlamesGiven S.Store (IsGoneThrough schema.Actions ChecksActions) calls.old calls.new result }
 {
-    let Some(listed) = check_rollouts::<Actions, S>(change)? else {
+    let Some(listed) = check_rollouts::<Actions, S>(calls)? else {
         return Ok(false);
     };
-    let all = change.count_actions()?;
+    let all = count_actions(calls)?;
     Ok(listed == all as usize)
 }
 
@@ -74,14 +76,14 @@ fn count_none(actions: &[ListedAction]) -> Option<usize>
 
 /// The actions of a rollout, where they keep the columns' rules. Two of one number are `Broken`.
 fn actions_of<S: Alter>(
-    change: &mut OpenChange<'_, S>,
+    calls: &mut Calls<S>,
     number: RolloutNo,
 ) -> Result<Option<Vec<ListedAction>>, Fault>
-    ensures stays { StaysIn S.Store change.old change.new result }
-    ensures reads { FindsTables S.Store change.old change.new result (λ t found. ListsActions t number (option_map vec_items found)) }
-    ensures blames { BlamesGiven S.Store (ReadsOf schema.Actions) change.old change.new result }
+    ensures stays { StaysIn S.Store calls.old calls.new result }
+    ensures reads { FindsTables S.Store calls.old calls.new result (λ t found. ListsActions t number (option_map vec_items found)) }
+    ensures blames { BlamesGiven S.Store (ReadsOf schema.Actions) calls.old calls.new result }
 {
-    let Some(actions) = change.list_all_actions(number)? else {
+    let Some(actions) = list_all_actions(calls, number)? else {
         return Ok(None);
     };
     if !numbers_rise(&actions) {
@@ -92,15 +94,12 @@ fn actions_of<S: Alter>(
 
 /// The members of a rollout, whose table was judged before: a row that breaks a rule, and two at one place,
 /// are `Broken`.
-fn members_of<S: Alter>(
-    change: &mut OpenChange<'_, S>,
-    number: RolloutNo,
-) -> Result<Vec<PlacedMember>, Fault>
-    ensures stays { StaysIn S.Store change.old change.new result }
-    ensures reads { FindsTables S.Store change.old change.new result (λ t members. AreMembersInTurn t number members.items) }
-    ensures blames { BlamesGiven S.Store ChecksActions change.old change.new result }
+fn members_of<S: Alter>(calls: &mut Calls<S>, number: RolloutNo) -> Result<Vec<PlacedMember>, Fault>
+    ensures stays { StaysIn S.Store calls.old calls.new result }
+    ensures reads { FindsTables S.Store calls.old calls.new result (λ t members. AreMembersInTurn t number members.items) }
+    ensures blames { BlamesGiven S.Store ChecksActions calls.old calls.new result }
 {
-    let Some(members) = change.list_places(number)? else {
+    let Some(members) = list_places(calls, number)? else {
         return Err(Fault::Broken);
     };
     if !count_on(&members) {

@@ -7,7 +7,7 @@ ghost use Rattle.desk_store.specs.Blaming.{BlamesGiven, ReadsOf};
 ghost use Rattle.desk_store.specs.Changing.{FindsTables, StaysIn};
 ghost use Rattle.desk_verify.specs.private.ArtifactChecks.{HashesPiece, HashesPieces};
 
-use desk_store::{Fault, OpenChange};
+use desk_store::{Calls, Fault, find_pieces};
 use rollout_model::limits::PIECE_LENGTH;
 use rollout_model::{ArtifactNo, Digest};
 use sha2::{Digest as _, Sha256};
@@ -15,19 +15,19 @@ use sqlite::Alter;
 
 /// The digest of the contents of this size that the pieces of an artifact make. One piece at a time is held in memory.
 pub(crate) fn hash_pieces<S: Alter>(
-    change: &mut OpenChange<'_, S>,
+    calls: &mut Calls<S>,
     number: ArtifactNo,
     size: u32,
 ) -> Result<Option<Digest>, Fault>
-    ensures stays { StaysIn S.Store change.old change.new result }
-    ensures judges { FindsTables S.Store change.old change.new result (λ t digest. HashesPieces t number size digest) }
-    ensures blames { BlamesGiven S.Store (ReadsOf Pieces) change.old change.new result }
+    ensures stays { StaysIn S.Store calls.old calls.new result }
+    ensures judges { FindsTables S.Store calls.old calls.new result (λ t digest. HashesPieces t number size digest) }
+    ensures blames { BlamesGiven S.Store (ReadsOf Pieces) calls.old calls.new result }
 {
     let mut hasher = Sha256::new();
     for before in 0..count_pieces(size) {
         let rest = size as usize - before as usize * PIECE_LENGTH;
         if !hash_piece(
-            change,
+            calls,
             number,
             before + 1,
             rest.min(PIECE_LENGTH),
@@ -41,17 +41,17 @@ pub(crate) fn hash_pieces<S: Alter>(
 
 /// Hashes the piece at a place of an artifact; `false` where none of this length lies there alone.
 fn hash_piece<S: Alter>(
-    change: &mut OpenChange<'_, S>,
+    calls: &mut Calls<S>,
     number: ArtifactNo,
     place: u32,
     size: usize,
     hasher: &mut Sha256,
 ) -> Result<bool, Fault>
-    ensures stays { StaysIn S.Store change.old change.new result }
-    ensures judges { FindsTables S.Store change.old change.new result (λ t lies. HashesPiece t number place size hasher.old hasher.new lies) }
-    ensures blames { BlamesGiven S.Store (ReadsOf Pieces) change.old change.new result }
+    ensures stays { StaysIn S.Store calls.old calls.new result }
+    ensures judges { FindsTables S.Store calls.old calls.new result (λ t lies. HashesPiece t number place size hasher.old hasher.new lies) }
+    ensures blames { BlamesGiven S.Store (ReadsOf Pieces) calls.old calls.new result }
 {
-    let pieces = change.find_pieces(number, place)?;
+    let pieces = find_pieces(calls, number, place)?;
     if pieces.len() != 1 {
         return Ok(false);
     }

@@ -13,7 +13,7 @@ use crate::damage::CheckedTable;
 use crate::groups::check_groups;
 use crate::members::check_members;
 use crate::offers::check_offers;
-use desk_store::{Fault, OpenChange};
+use desk_store::{Calls, Fault};
 use sqlite::Alter;
 
 /// The tables in the order in which they are checked.
@@ -26,23 +26,23 @@ const TABLES: [CheckedTable; 5] = [
 ];
 
 /// The first table that doesn't agree, if there is one. Nothing is written.
-pub fn find_damage<S: Alter>(change: &mut OpenChange<'_, S>) -> Result<Option<CheckedTable>, Fault>
-    ensures stays { StaysIn S.Store change.old change.new result }
-    ensures judges { FindsTables S.Store change.old change.new result IsDamage }
-    ensures never { NamesNone (seen_in S.Store change.old) (seen_in S.Store change.new) result }
-    ensures stops { StopsInOrder S.Store change.old change.new result }
+pub fn find_damage<S: Alter>(calls: &mut Calls<S>) -> Result<Option<CheckedTable>, Fault>
+    ensures stays { StaysIn S.Store calls.old calls.new result }
+    ensures judges { FindsTables S.Store calls.old calls.new result IsDamage }
+    ensures never { NamesNone (seen_in S.Store calls.old) (seen_in S.Store calls.new) result }
+    ensures stops { StopsInOrder S.Store calls.old calls.new result }
 {
-    check_tables(change)
+    check_tables(calls)
 }
 
 /// Checks one table after the other, up to the first that doesn't agree.
-fn check_tables<S: Alter>(change: &mut OpenChange<'_, S>) -> Result<Option<CheckedTable>, Fault>
-    ensures stays { StaysIn S.Store change.old change.new result }
-    ensures judges { FindsTables S.Store change.old change.new result IsDamage }
-    ensures stops { StopsInOrder S.Store change.old change.new result }
+fn check_tables<S: Alter>(calls: &mut Calls<S>) -> Result<Option<CheckedTable>, Fault>
+    ensures stays { StaysIn S.Store calls.old calls.new result }
+    ensures judges { FindsTables S.Store calls.old calls.new result IsDamage }
+    ensures stops { StopsInOrder S.Store calls.old calls.new result }
 {
     for table in &TABLES {
-        if !check_table(change, *table)? {
+        if !check_table(calls, *table)? {
             return Ok(Some(*table));
         }
     }
@@ -50,16 +50,16 @@ fn check_tables<S: Alter>(change: &mut OpenChange<'_, S>) -> Result<Option<Check
 }
 
 /// Whether the table agrees.
-fn check_table<S: Alter>(change: &mut OpenChange<'_, S>, table: CheckedTable) -> Result<bool, Fault>
-    ensures stays { StaysIn S.Store change.old change.new result }
-    ensures judges { FindsTables S.Store change.old change.new result (λ t agrees. Settles (Passes t table) (Agrees t table) agrees) }
-    ensures blames { BlamesGiven S.Store (ChecksTable table) change.old change.new result }
+fn check_table<S: Alter>(calls: &mut Calls<S>, table: CheckedTable) -> Result<bool, Fault>
+    ensures stays { StaysIn S.Store calls.old calls.new result }
+    ensures judges { FindsTables S.Store calls.old calls.new result (λ t agrees. Settles (Passes t table) (Agrees t table) agrees) }
+    ensures blames { BlamesGiven S.Store (ChecksTable table) calls.old calls.new result }
 {
     match table {
-        CheckedTable::Artifact => check_artifacts(change),
-        CheckedTable::Member => check_members(change),
-        CheckedTable::RolloutGroup => check_groups(change),
-        CheckedTable::Action => check_actions(change),
-        CheckedTable::Offer => check_offers(change),
+        CheckedTable::Artifact => check_artifacts(calls),
+        CheckedTable::Member => check_members(calls),
+        CheckedTable::RolloutGroup => check_groups(calls),
+        CheckedTable::Action => check_actions(calls),
+        CheckedTable::Offer => check_offers(calls),
     }
 }

@@ -9,23 +9,23 @@ ghost use Rattle.desk_verify.specs.GroupChecks.{HaveOnlyRules, IsCutOnlyBy};
 ghost use Rattle.desk_verify.specs.private.RolloutChecks.{HasRollout, IsAtRollout};
 
 use crate::rollouts::NumberedRollout;
-use desk_store::{Fault, OpenChange};
+use desk_store::{Calls, Fault, find_rule};
 use rollout_model::{GroupCount, GroupDefinition, GroupDefinitions, GroupRule, Grouping};
 use sqlite::Alter;
 use std::alloc::{AllocError, Global};
 
 /// How a rollout was cut. Where a group has no rule, or the rules make no grouping, it is `Broken`.
 pub(crate) fn read_grouping<S: Alter>(
-    change: &mut OpenChange<'_, S>,
+    calls: &mut Calls<S>,
     rollout: &NumberedRollout,
 ) -> Result<Grouping, Fault>
-    ensures stays { StaysIn S.Store change.old change.new result }
-    ensures reads { FindsTables S.Store change.old change.new result
+    ensures stays { StaysIn S.Store calls.old calls.new result }
+    ensures reads { FindsTables S.Store calls.old calls.new result
         (λ t groups. HasRollout t rollout.now.number rollout.now.rollout → IsCutOnlyBy t rollout.now.number groups) }
-    ensures blames { BlamesGiven S.Store (IsAtRollout ChecksGroups rollout.now.number rollout.now.rollout) change.old change.new result }
+    ensures blames { BlamesGiven S.Store (IsAtRollout ChecksGroups rollout.now.number rollout.now.rollout) calls.old calls.new result }
 {
-    let rules = read_rules(change, rollout)?;
-    let Ok(definitions) = definitions_in(change.alloc(), &rules) else {
+    let rules = read_rules(calls, rollout)?;
+    let Ok(definitions) = definitions_in(calls.alloc(), &rules) else {
         return Err(Fault::Memory);
     };
     match grouping_with(rollout.rollout.plan.groups, definitions) {
@@ -36,17 +36,17 @@ pub(crate) fn read_grouping<S: Alter>(
 
 /// The rules of all groups of a rollout. Where a group has none, it is `Broken`.
 fn read_rules<S: Alter>(
-    change: &mut OpenChange<'_, S>,
+    calls: &mut Calls<S>,
     rollout: &NumberedRollout,
 ) -> Result<Vec<GroupRule>, Fault>
-    ensures stays { StaysIn S.Store change.old change.new result }
+    ensures stays { StaysIn S.Store calls.old calls.new result }
     ensures count { IfOk result (λ rules. length rules.items ≡ rollout.now.rollout.plan.groups) }
-    ensures reads { FindsTables S.Store change.old change.new result (λ t rules. HaveOnlyRules t rollout.now.number rules.items) }
-    ensures blames { BlamesGiven S.Store (IsAtRollout ChecksGroups rollout.now.number rollout.now.rollout) change.old change.new result }
+    ensures reads { FindsTables S.Store calls.old calls.new result (λ t rules. HaveOnlyRules t rollout.now.number rules.items) }
+    ensures blames { BlamesGiven S.Store (IsAtRollout ChecksGroups rollout.now.number rollout.now.rollout) calls.old calls.new result }
 {
-    let mut rules = Vec::new(change.alloc());
+    let mut rules = Vec::new(calls.alloc());
     for before in 0..rollout.rollout.plan.groups.get() {
-        let Some(rule) = change.find_rule(rollout.number, before + 1)? else {
+        let Some(rule) = find_rule(calls, rollout.number, before + 1)? else {
             return Err(Fault::Broken);
         };
         rules.push(rule)?;

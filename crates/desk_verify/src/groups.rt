@@ -13,7 +13,7 @@ ghost use Rattle.desk_verify.specs.private.RolloutChecks.{IsGoneThrough};
 use crate::cuts::are_right;
 use crate::groupings::read_grouping;
 use crate::rollouts::{ByRollout, NumberedRollout, check_rollouts};
-use desk_store::{Fault, OpenChange};
+use desk_store::{Calls, Fault, count_groups, count_places, list_counted_actions, list_groups};
 use sqlite::Alter;
 
 struct Groups;
@@ -32,16 +32,16 @@ impl<S: Alter> ByRollout<S> for Groups {
     ghost given = { ChecksGroups };
 
     fn check_rollout(
-        change: &mut OpenChange<'_, S>,
+        calls: &mut Calls<S>,
         rollout: &NumberedRollout,
     ) -> Result<Option<usize>, Fault> {
-        let grouping = read_grouping(change, rollout)?;
-        let members = change.count_places(rollout.number)?;
-        let Some(groups) = change.list_groups(rollout.number)? else {
+        let grouping = read_grouping(calls, rollout)?;
+        let members = count_places(calls, rollout.number)?;
+        let Some(groups) = list_groups(calls, rollout.number)? else {
             return Ok(None);
         };
-        let actions = change.list_counted_actions(rollout.number)?;
-        let Ok(right) = are_right(change.alloc(), &groups, &actions, members, &grouping) else {
+        let actions = list_counted_actions(calls, rollout.number)?;
+        let Ok(right) = are_right(calls.alloc(), &groups, &actions, members, &grouping) else {
             return Err(Fault::Memory);
         };
         Ok(right.then_some(groups.len()))
@@ -49,14 +49,14 @@ impl<S: Alter> ByRollout<S> for Groups {
 }
 
 /// Whether the table of groups agrees.
-pub(crate) fn check_groups<S: Alter>(change: &mut OpenChange<'_, S>) -> Result<bool, Fault>
-    ensures stays { StaysIn S.Store change.old change.new result }
-    ensures judges { FindsTables S.Store change.old change.new result (λ t agrees. SettlesWhether (AgreesGroups t) agrees) }
-    ensures blames { BlamesGiven S.Store (IsGoneThrough schema.Groups ChecksGroups) change.old change.new result }
+pub(crate) fn check_groups<S: Alter>(calls: &mut Calls<S>) -> Result<bool, Fault>
+    ensures stays { StaysIn S.Store calls.old calls.new result }
+    ensures judges { FindsTables S.Store calls.old calls.new result (λ t agrees. SettlesWhether (AgreesGroups t) agrees) }
+    ensures blames { BlamesGiven S.Store (IsGoneThrough schema.Groups ChecksGroups) calls.old calls.new result }
 {
-    let Some(listed) = check_rollouts::<Groups, S>(change)? else {
+    let Some(listed) = check_rollouts::<Groups, S>(calls)? else {
         return Ok(false);
     };
-    let all = change.count_groups()?;
+    let all = count_groups(calls)?;
     Ok(listed == all as usize)
 }

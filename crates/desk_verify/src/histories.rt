@@ -10,23 +10,23 @@ ghost use Rattle.desk_verify.specs.Agreement.{Settles};
 ghost use Rattle.desk_verify.specs.Checking.{ChecksActions};
 
 use crate::turns::sequences_rise;
-use desk_store::{Fault, ListedAction, OpenChange, SequencedEntry};
+use desk_store::{Calls, Fault, ListedAction, SequencedEntry, list_history, read_numbers};
 use rollout_machine::{Outcome, is_outcome, outcome_said};
 use rollout_model::ActionNo;
 use sqlite::Alter;
 
 /// Whether the outcome of each action fits its history.
 pub(crate) fn fit_histories<S: Alter>(
-    change: &mut OpenChange<'_, S>,
+    calls: &mut Calls<S>,
     actions: &[ListedAction],
 ) -> Result<bool, Fault>
-    ensures stays { StaysIn S.Store change.old change.new result }
-    ensures judges { FindsTables S.Store change.old change.new result
+    ensures stays { StaysIn S.Store calls.old calls.new result }
+    ensures judges { FindsTables S.Store calls.old calls.new result
         (λ t fit. Settles (AllByRecursion (PassesHistory t) actions.now) (AllByRecursion (FitsItsEntries t) actions.now) fit) }
-    ensures blames { BlamesGiven S.Store ChecksActions change.old change.new result }
+    ensures blames { BlamesGiven S.Store ChecksActions calls.old calls.new result }
 {
     for action in actions {
-        if !fits_history(change, action)? {
+        if !fits_history(calls, action)? {
             return Ok(false);
         }
     }
@@ -34,30 +34,24 @@ pub(crate) fn fit_histories<S: Alter>(
 }
 
 /// Whether the outcome of an action fits its history. Its numbers are read beside, and nothing is recounted of them.
-fn fits_history<S: Alter>(
-    change: &mut OpenChange<'_, S>,
-    action: &ListedAction,
-) -> Result<bool, Fault>
-    ensures stays { StaysIn S.Store change.old change.new result }
-    ensures judges { FindsTables S.Store change.old change.new result (λ t fits. Settles (PassesHistory t action.now) (FitsItsEntries t action.now) fits) }
-    ensures blames { BlamesGiven S.Store ChecksActions change.old change.new result }
+fn fits_history<S: Alter>(calls: &mut Calls<S>, action: &ListedAction) -> Result<bool, Fault>
+    ensures stays { StaysIn S.Store calls.old calls.new result }
+    ensures judges { FindsTables S.Store calls.old calls.new result (λ t fits. Settles (PassesHistory t action.now) (FitsItsEntries t action.now) fits) }
+    ensures blames { BlamesGiven S.Store ChecksActions calls.old calls.new result }
 {
-    let given = find_given(change, action.number)?;
-    change.read_numbers(action.number)?;
+    let given = find_given(calls, action.number)?;
+    read_numbers(calls, action.number)?;
     Ok(is_fit(given, action.action.outcome))
 }
 
 /// The outcome that the history of an action gives, if it gives one. Two entries at one place of its
 /// sequence are `Broken`.
-fn find_given<S: Alter>(
-    change: &mut OpenChange<'_, S>,
-    number: ActionNo,
-) -> Result<Option<Outcome>, Fault>
-    ensures stays { StaysIn S.Store change.old change.new result }
-    ensures reads { FindsTables S.Store change.old change.new result (λ t given. IsGiven t number given) }
-    ensures blames { BlamesGiven S.Store (ReadsOf Feedbacks) change.old change.new result }
+fn find_given<S: Alter>(calls: &mut Calls<S>, number: ActionNo) -> Result<Option<Outcome>, Fault>
+    ensures stays { StaysIn S.Store calls.old calls.new result }
+    ensures reads { FindsTables S.Store calls.old calls.new result (λ t given. IsGiven t number given) }
+    ensures blames { BlamesGiven S.Store (ReadsOf Feedbacks) calls.old calls.new result }
 {
-    let entries = change.list_history(number)?;
+    let entries = list_history(calls, number)?;
     if !sequences_rise(&entries) {
         return Err(Fault::Broken);
     }

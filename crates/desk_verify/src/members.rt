@@ -10,7 +10,7 @@ ghost use Rattle.desk_verify.specs.private.RolloutChecks.{IsGoneThrough};
 
 use crate::places::are_in_place;
 use crate::rollouts::{ByRollout, NumberedRollout, check_rollouts};
-use desk_store::{Fault, OpenChange};
+use desk_store::{Calls, Fault, count_members, list_places};
 use sqlite::Alter;
 
 struct Members;
@@ -29,10 +29,10 @@ impl<S: Alter> ByRollout<S> for Members {
     ghost given = { ReadsOf Members };
 
     fn check_rollout(
-        change: &mut OpenChange<'_, S>,
+        calls: &mut Calls<S>,
         rollout: &NumberedRollout,
     ) -> Result<Option<usize>, Fault> {
-        let Some(members) = change.list_places(rollout.number)? else {
+        let Some(members) = list_places(calls, rollout.number)? else {
             return Ok(None);
         };
         Ok(are_in_place(&members).then_some(members.len()))
@@ -40,14 +40,14 @@ impl<S: Alter> ByRollout<S> for Members {
 }
 
 /// Whether the table of members agrees.
-pub(crate) fn check_members<S: Alter>(change: &mut OpenChange<'_, S>) -> Result<bool, Fault>
-    ensures stays { StaysIn S.Store change.old change.new result }
-    ensures judges { FindsTables S.Store change.old change.new result (λ t agrees. SettlesWhether (AgreesMembers t) agrees) }
-    ensures blames { BlamesGiven S.Store (IsGoneThrough schema.Members (ReadsOf schema.Members)) change.old change.new result }
+pub(crate) fn check_members<S: Alter>(calls: &mut Calls<S>) -> Result<bool, Fault>
+    ensures stays { StaysIn S.Store calls.old calls.new result }
+    ensures judges { FindsTables S.Store calls.old calls.new result (λ t agrees. SettlesWhether (AgreesMembers t) agrees) }
+    ensures blames { BlamesGiven S.Store (IsGoneThrough schema.Members (ReadsOf schema.Members)) calls.old calls.new result }
 {
-    let Some(listed) = check_rollouts::<Members, S>(change)? else {
+    let Some(listed) = check_rollouts::<Members, S>(calls)? else {
         return Ok(false);
     };
-    let all = change.count_members()?;
+    let all = count_members(calls)?;
     Ok(listed == all as usize)
 }

@@ -13,7 +13,10 @@ ghost use Rattle.desk_verify.specs.OfferChecks.{holds_started, is_due, is_starte
 ghost use Rattle.desk_verify.specs.Offers.{AgreesOffers, IsInStartedGroup, IsOffered};
 
 use crate::rollouts::{ByRollout, NumberedRollout, check_rollouts};
-use desk_store::{Fault, ListedAction, OpenChange, OwnedOffer, StoredAction};
+use desk_store::{
+    Calls, Fault, ListedAction, OwnedOffer, StoredAction, find_action, find_offer,
+    list_all_actions, list_groups, list_offers,
+};
 use rollout_machine::GroupRecord;
 use rollout_model::{ActionNo, ControllerId, RolloutNo};
 use sqlite::Alter;
@@ -42,34 +45,34 @@ impl<S: Alter> ByRollout<S> for Actions {
     ghost given = { ChecksDueActions };
 
     fn check_rollout(
-        change: &mut OpenChange<'_, S>,
+        calls: &mut Calls<S>,
         rollout: &NumberedRollout,
     ) -> Result<Option<usize>, Fault> {
-        let Some(groups) = change.list_groups(rollout.number)? else {
+        let Some(groups) = list_groups(calls, rollout.number)? else {
             return Err(Fault::Broken);
         };
-        let Some(actions) = change.list_all_actions(rollout.number)? else {
+        let Some(actions) = list_all_actions(calls, rollout.number)? else {
             return Err(Fault::Broken);
         };
-        let offered = are_offered_if_due(change, &groups, &actions)?;
+        let offered = are_offered_if_due(calls, &groups, &actions)?;
         Ok(offered.then_some(actions.len()))
     }
 }
 
 /// Whether the table of offers agrees. A row of actions or groups that breaks a rule is `Broken`.
-pub(crate) fn check_offers<S: Alter>(change: &mut OpenChange<'_, S>) -> Result<bool, Fault>
-    ensures stays { StaysIn S.Store change.old change.new result }
-    ensures judges { FindsTables S.Store change.old change.new result (λ t agrees. SettlesWhether (AgreesOffers t) agrees) }
-    ensures blames { BlamesGiven S.Store ChecksOffers change.old change.new result }
+pub(crate) fn check_offers<S: Alter>(calls: &mut Calls<S>) -> Result<bool, Fault>
+    ensures stays { StaysIn S.Store calls.old calls.new result }
+    ensures judges { FindsTables S.Store calls.old calls.new result (λ t agrees. SettlesWhether (AgreesOffers t) agrees) }
+    ensures blames { BlamesGiven S.Store ChecksOffers calls.old calls.new result }
 {
-    let Some(listed) = change.list_offers()? else {
+    let Some(listed) = list_offers(calls)? else {
         return Ok(false);
     };
     let offers = in_action_order(listed);
-    if !are_right(change, &offers)? {
+    if !are_right(calls, &offers)? {
         return Ok(false);
     }
-    let offered = check_rollouts::<Actions, S>(change)?;
+    let offered = check_rollouts::<Actions, S>(calls)?;
     Ok(offered.is_some())
 }
 
@@ -82,17 +85,17 @@ fn in_action_order(mut offers: Vec<OwnedOffer>) -> Vec<OwnedOffer>
 }
 
 /// Whether each of the offers is right. The groups of a rollout are read once for all its offers that stand together.
-fn are_right<S: Alter>(change: &mut OpenChange<'_, S>, offers: &[OwnedOffer]) -> Result<bool, Fault>
-    ensures stays { StaysIn S.Store change.old change.new result }
-    ensures judges { FindsTables S.Store change.old change.new result (λ t right. SettlesWhether (AllByRecursion (IsRight t) offers.now) right) }
-    ensures blames { BlamesGiven S.Store ChecksOffers change.old change.new result }
+fn are_right<S: Alter>(calls: &mut Calls<S>, offers: &[OwnedOffer]) -> Result<bool, Fault>
+    ensures stays { StaysIn S.Store calls.old calls.new result }
+    ensures judges { FindsTables S.Store calls.old calls.new result (λ t right. SettlesWhether (AllByRecursion (IsRight t) offers.now) right) }
+    ensures blames { BlamesGiven S.Store ChecksOffers calls.old calls.new result }
 {
     let mut kept = KeptGroups {
         rollout: None,
-        groups: Vec::new(change.alloc()),
+        groups: Vec::new(calls.alloc()),
     };
     for offer in offers {
-        if !is_right(change, &mut kept, offer)? {
+        if !is_right(calls, &mut kept, offer)? {
             return Ok(false);
         }
     }
@@ -101,22 +104,22 @@ fn are_right<S: Alter>(change: &mut OpenChange<'_, S>, offers: &[OwnedOffer]) ->
 
 /// Whether an open action of the target is offered as it is to be done, and its group is started.
 fn is_right<S: Alter>(
-    change: &mut OpenChange<'_, S>,
+    calls: &mut Calls<S>,
     kept: &mut KeptGroups,
     owned: &OwnedOffer,
 ) -> Result<bool, Fault>
-    ensures stays { StaysIn S.Store change.old change.new result }
-    ensures judges { FindsTables S.Store change.old change.new result
+    ensures stays { StaysIn S.Store calls.old calls.new result }
+    ensures judges { FindsTables S.Store calls.old calls.new result
         (λ t right. AreKeptGroups t kept.old → SettlesWhether (IsRight t owned.now) right × AreKeptGroups t kept.new) }
-    ensures blames { BlamesGiven S.Store ChecksOffers change.old change.new result }
+    ensures blames { BlamesGiven S.Store ChecksOffers calls.old calls.new result }
 {
-    let Some(action) = change.find_action(owned.offer.action)? else {
+    let Some(action) = find_action(calls, owned.offer.action)? else {
         return Ok(false);
     };
     if !fits(&action, owned) {
         return Ok(false);
     }
-    is_in_started_group(change, kept, action.rollout, action.position)
+    is_in_started_group(calls, kept, action.rollout, action.position)
 }
 
 /// Whether the action is open, of the target, and to be canceled where the offer says so.
@@ -130,35 +133,35 @@ fn fits(action: &StoredAction, owned: &OwnedOffer) -> bool
 
 /// Whether a started group of the rollout holds the place. A row of a group that breaks a rule is `Broken`.
 fn is_in_started_group<S: Alter>(
-    change: &mut OpenChange<'_, S>,
+    calls: &mut Calls<S>,
     kept: &mut KeptGroups,
     rollout: RolloutNo,
     place: u32,
 ) -> Result<bool, Fault>
-    ensures stays { StaysIn S.Store change.old change.new result }
-    ensures judges { FindsTables S.Store change.old change.new result
+    ensures stays { StaysIn S.Store calls.old calls.new result }
+    ensures judges { FindsTables S.Store calls.old calls.new result
         (λ t started. AreKeptGroups t kept.old → SettlesWhether (IsInStartedGroup t rollout place) started × AreKeptGroups t kept.new) }
-    ensures blames { BlamesGiven S.Store ChecksOffers change.old change.new result }
+    ensures blames { BlamesGiven S.Store ChecksOffers calls.old calls.new result }
 {
-    keep_groups(change, kept, rollout)?;
+    keep_groups(calls, kept, rollout)?;
     Ok(holds_started(&kept.groups, place))
 }
 
 /// Reads the groups of a rollout, unless they are kept already. A row of a group that breaks a rule is `Broken`.
 fn keep_groups<S: Alter>(
-    change: &mut OpenChange<'_, S>,
+    calls: &mut Calls<S>,
     kept: &mut KeptGroups,
     rollout: RolloutNo,
 ) -> Result<(), Fault>
-    ensures stays { StaysIn S.Store change.old change.new result }
-    ensures reads { FindsTables S.Store change.old change.new result
+    ensures stays { StaysIn S.Store calls.old calls.new result }
+    ensures reads { FindsTables S.Store calls.old calls.new result
         (λ t done. AreKeptGroups t kept.old → AreGroupsOf t rollout kept.new.groups.items × AreKeptGroups t kept.new) }
-    ensures blames { BlamesGiven S.Store ChecksOffers change.old change.new result }
+    ensures blames { BlamesGiven S.Store ChecksOffers calls.old calls.new result }
 {
     if is_of(kept.rollout, rollout) {
         return Ok(());
     }
-    let Some(groups) = change.list_groups(rollout)? else {
+    let Some(groups) = list_groups(calls, rollout)? else {
         return Err(Fault::Broken);
     };
     kept.rollout = Some(rollout);
@@ -191,17 +194,17 @@ fn is_started_at(group: &GroupRecord, place: u32) -> bool
 
 /// Whether the target of each action that is due is offered it, or one before it.
 fn are_offered_if_due<S: Alter>(
-    change: &mut OpenChange<'_, S>,
+    calls: &mut Calls<S>,
     groups: &[GroupRecord],
     actions: &[ListedAction],
 ) -> Result<bool, Fault>
-    ensures stays { StaysIn S.Store change.old change.new result }
-    ensures judges { FindsTables S.Store change.old change.new result
+    ensures stays { StaysIn S.Store calls.old calls.new result }
+    ensures judges { FindsTables S.Store calls.old calls.new result
         (λ t offered. SettlesWhether (AllByRecursion (IsOfferedIfDue t groups.now) actions.now) offered) }
-    ensures blames { BlamesGiven S.Store ChecksDueActions change.old change.new result }
+    ensures blames { BlamesGiven S.Store ChecksDueActions calls.old calls.new result }
 {
     for listed in actions {
-        if !is_offered_if_due(change, groups, listed)? {
+        if !is_offered_if_due(calls, groups, listed)? {
             return Ok(false);
         }
     }
@@ -209,18 +212,18 @@ fn are_offered_if_due<S: Alter>(
 }
 
 fn is_offered_if_due<S: Alter>(
-    change: &mut OpenChange<'_, S>,
+    calls: &mut Calls<S>,
     groups: &[GroupRecord],
     listed: &ListedAction,
 ) -> Result<bool, Fault>
-    ensures stays { StaysIn S.Store change.old change.new result }
-    ensures judges { FindsTables S.Store change.old change.new result (λ t offered. SettlesWhether (IsOfferedIfDue t groups.now listed.now) offered) }
-    ensures blames { BlamesGiven S.Store ChecksDueActions change.old change.new result }
+    ensures stays { StaysIn S.Store calls.old calls.new result }
+    ensures judges { FindsTables S.Store calls.old calls.new result (λ t offered. SettlesWhether (IsOfferedIfDue t groups.now listed.now) offered) }
+    ensures blames { BlamesGiven S.Store ChecksDueActions calls.old calls.new result }
 {
     if !is_due(groups, &listed.action) {
         return Ok(true);
     }
-    is_offered(change, &listed.action.target, listed.number)
+    is_offered(calls, &listed.action.target, listed.number)
 }
 
 /// Whether the action is open, and a started one of the groups holds its place.
@@ -232,15 +235,15 @@ fn is_due(groups: &[GroupRecord], action: &StoredAction) -> bool
 
 /// Whether the target is offered an action of no greater number.
 fn is_offered<S: Alter>(
-    change: &mut OpenChange<'_, S>,
+    calls: &mut Calls<S>,
     id: &ControllerId,
     number: ActionNo,
 ) -> Result<bool, Fault>
-    ensures stays { StaysIn S.Store change.old change.new result }
-    ensures judges { FindsTables S.Store change.old change.new result (λ t offered. SettlesWhether (IsOffered t id.now number) offered) }
-    ensures blames { BlamesGiven S.Store ChecksDueActions change.old change.new result }
+    ensures stays { StaysIn S.Store calls.old calls.new result }
+    ensures judges { FindsTables S.Store calls.old calls.new result (λ t offered. SettlesWhether (IsOffered t id.now number) offered) }
+    ensures blames { BlamesGiven S.Store ChecksDueActions calls.old calls.new result }
 {
-    match change.find_offer(id)? {
+    match find_offer(calls, id)? {
         Some(offer) => Ok(offer.action.get() <= number.get()),
         None => Ok(false),
     }

@@ -12,7 +12,7 @@ use Rattle.desk_records.specs.Tables.{HoldsTables, Tables}
 use Rattle.desk_records.specs.declared.artifact_row.StoredArtifact.{StoredArtifact}
 use Rattle.desk_store.specs.Changing.{seen_in}
 use Rattle.desk_store.specs.RawLists.{HasListed, HasNumbered}
-use Rattle.desk_store.specs.declared.change.OpenChange.{OpenChange}
+use Rattle.sql_calls.specs.declared.calls.Calls.{Calls}
 
 -- the artifact of a number and a module
 pub record IsArtifactOf (t : Tables) (module_number number : ℕ) (a : StoredArtifact) : Type 0 where
@@ -37,5 +37,5 @@ KeepsSize t _ reply = Unit {0}
 
 module _ {S : Type 0} (g : Ghosts S) where
   -- at Ok the answer is true of the tables that the change saw before it
-  pub record AgreesIn {A : Type 0} (old new : OpenChange S) (result : Result A Fault) (Answer : Tables → A → Type 0) : Type 0 where
+  pub record AgreesIn {A : Type 0} (old new : Calls S) (result : Result A Fault) (Answer : Tables → A → Type 0) : Type 0 where
     pub agrees : IfOk result (λ a. (t : Tables) → Sees HoldsTables (seen_in g old) t → HasCleanDisk (seen_in g new) → Answer t a)

@@ -20,7 +20,11 @@ ghost use Rattle.desk_store.specs.private.Rows.{IfRowsBroken};
 ghost use Rattle.desk_store.specs.Changing.{FindsIn, StaysIn};
 
 use campaign_core::{ActionStatus, action_word};
-use desk_store::{Fault, ListedAction, OpenChange, PlacedNumber, StoredAction};
+use desk_store::{
+    Calls, Fault, ListedAction, PlacedNumber, StoredAction, read_action, read_action_numbers,
+    read_actions, read_groups, read_holding_group, read_numbers, read_rollout, read_target,
+    read_target_actions,
+};
 use rollout_machine::GroupRecord;
 use rollout_model::{
     Action, ActionNo, ControllerId, FeedbackNumber, HistoryEntry, NumberedEntry, Page, PageOf,
@@ -38,100 +42,100 @@ const WHOLE: Page = Page {
 /// Shows a page of the actions of a target, in the order of their numbers.
 pub fn show_target_actions<S: Alter>(
     alloc: Global,
-    change: &mut OpenChange<'_, S>,
+    calls: &mut Calls<S>,
     id: ControllerId,
     page: Page,
 ) -> Result<Reply, Fault>
-    ensures stays { StaysIn S.Store change.old change.new result }
-    ensures shows { ShowsIn S.Store change.old change.new (ShowTargetActions id page) result }
-    ensures fails { FailsAtListsIn S.Store change.old change.new result }
+    ensures stays { StaysIn S.Store calls.old calls.new result }
+    ensures shows { ShowsIn S.Store calls.old calls.new (ShowTargetActions id page) result }
+    ensures fails { FailsAtListsIn S.Store calls.old calls.new result }
 {
-    if change.read_target(&id)?.is_none() {
+    if read_target(calls, &id)?.is_none() {
         return Ok(Reply::Refused(Refusal::NotFound));
     }
-    let numbers = change.read_action_numbers(&id)?;
+    let numbers = read_action_numbers(calls, &id)?;
     let total = count_of(&numbers)?;
-    let content = read_actions_on(alloc, change, &id, &numbers, page)?;
+    let content = read_actions_on(alloc, calls, &id, &numbers, page)?;
     Ok(Reply::Actions(PageOf { content, total }))
 }
 
 /// The actions of a target that are on a page, as they are shown, by the numbers of all its actions.
 fn read_actions_on<S: Alter>(
     alloc: Global,
-    change: &mut OpenChange<'_, S>,
+    calls: &mut Calls<S>,
     id: &ControllerId,
     numbers: &[ActionNo],
     page: Page,
 ) -> Result<Vec<Action>, Fault>
-    ensures stays { StaysIn S.Store change.old change.new result }
-    ensures reads { FindsAtListsIn S.Store change.old change.new result (λ now found.
+    ensures stays { StaysIn S.Store calls.old calls.new result }
+    ensures reads { FindsAtListsIn S.Store calls.old calls.new result (λ now found.
         numbers.now ≡ map (λ (a : ShownAction). a.number) (actions_of_target now id.now)
         → found.items ≡ take page.limit (drop page.offset (actions_of_target now id.now))) }
-    ensures fails { FailsAtListsIn S.Store change.old change.new result }
+    ensures fails { FailsAtListsIn S.Store calls.old calls.new result }
 {
     let Some(first) = numbers.get(page.offset as usize) else {
         return Ok(Vec::new(alloc));
     };
-    let listed = change.read_target_actions(id, *first, page.limit)?;
-    read_all_shown(alloc, change, &listed)
+    let listed = read_target_actions(calls, id, *first, page.limit)?;
+    read_all_shown(alloc, calls, &listed)
 }
 
 /// Shows all actions of a rollout, in the order of their numbers.
 pub fn show_actions_table<S: Alter>(
     alloc: Global,
-    change: &mut OpenChange<'_, S>,
+    calls: &mut Calls<S>,
     number: RolloutNo,
 ) -> Result<Reply, Fault>
-    ensures stays { StaysIn S.Store change.old change.new result }
-    ensures shows { ShowsIn S.Store change.old change.new (ShowActionsTable number) result }
-    ensures fails { FailsAtListsIn S.Store change.old change.new result }
-    ensures work { RunsIn 3 change.old change.new }
+    ensures stays { StaysIn S.Store calls.old calls.new result }
+    ensures shows { ShowsIn S.Store calls.old calls.new (ShowActionsTable number) result }
+    ensures fails { FailsAtListsIn S.Store calls.old calls.new result }
+    ensures work { RunsIn 3 calls.old calls.new }
 {
-    if change.read_rollout(number)?.is_none() {
+    if read_rollout(calls, number.get())?.is_none() {
         return Ok(Reply::Refused(Refusal::NotFound));
     }
-    let all = change.read_actions(number, WHOLE)?;
+    let all = read_actions(calls, number, WHOLE)?;
     count_of(&all)?;
-    let groups = change.read_groups(number)?;
+    let groups = read_groups(calls, number)?;
     let actions = all_shown_among(alloc, &groups, &all)?;
     Ok(Reply::ActionsTable(actions))
 }
 
 /// Shows an action of a target by its number.
 pub fn show_action<S: Alter>(
-    change: &mut OpenChange<'_, S>,
+    calls: &mut Calls<S>,
     id: ControllerId,
     number: ActionNo,
 ) -> Result<Reply, Fault>
-    ensures stays { StaysIn S.Store change.old change.new result }
-    ensures shows { ShowsIn S.Store change.old change.new (ShowAction id number) result }
-    ensures fails { FailsAtListsIn S.Store change.old change.new result }
+    ensures stays { StaysIn S.Store calls.old calls.new result }
+    ensures shows { ShowsIn S.Store calls.old calls.new (ShowAction id number) result }
+    ensures fails { FailsAtListsIn S.Store calls.old calls.new result }
 {
-    let action = match read_of_target(change, id, number)? {
+    let action = match read_of_target(calls, id, number)? {
         Some(action) => action,
         None => return Ok(Reply::Refused(Refusal::NotFound)),
     };
-    let shown = read_shown(change, &ListedAction { number, action })?;
+    let shown = read_shown(calls, &ListedAction { number, action })?;
     Ok(Reply::Action(shown))
 }
 
 /// Shows a page of the feedback on an action of a target, in its order.
 pub fn show_history<S: Alter>(
     alloc: Global,
-    change: &mut OpenChange<'_, S>,
+    calls: &mut Calls<S>,
     id: ControllerId,
     number: ActionNo,
     page: Page,
 ) -> Result<Reply, Fault>
-    ensures stays { StaysIn S.Store change.old change.new result }
-    ensures shows { ShowsIn S.Store change.old change.new (ShowHistory id number page) result }
-    ensures fails { FailsAtListsIn S.Store change.old change.new result }
+    ensures stays { StaysIn S.Store calls.old calls.new result }
+    ensures shows { ShowsIn S.Store calls.old calls.new (ShowHistory id number page) result }
+    ensures fails { FailsAtListsIn S.Store calls.old calls.new result }
 {
-    let action = match read_of_target(change, id, number)? {
+    let action = match read_of_target(calls, id, number)? {
         Some(action) => action,
         None => return Ok(Reply::Refused(Refusal::NotFound)),
     };
-    let content = read_numbered(alloc, change, number, page)?;
+    let content = read_numbered(alloc, calls, number, page)?;
     let total = action.entries;
     Ok(Reply::History(PageOf { content, total }))
 }
@@ -139,36 +143,36 @@ pub fn show_history<S: Alter>(
 /// What was reported on an action, as far as it is on a page, with its places and numbers. Of an empty page no numbers are read.
 fn read_numbered<S: Alter>(
     alloc: Global,
-    change: &mut OpenChange<'_, S>,
+    calls: &mut Calls<S>,
     number: ActionNo,
     page: Page,
 ) -> Result<Vec<NumberedEntry>, Fault>
-    ensures stays { StaysIn S.Store change.old change.new result }
-    ensures reads { FindsAtListsIn S.Store change.old change.new result
+    ensures stays { StaysIn S.Store calls.old calls.new result }
+    ensures reads { FindsAtListsIn S.Store calls.old calls.new result
         (λ now found. found.items ≡ take page.limit (drop page.offset (numbered entry_shown 1 (reports_of (item_numbered now.actions number))))) }
-    ensures fails { FailsAtListsIn S.Store change.old change.new result }
+    ensures fails { FailsAtListsIn S.Store calls.old calls.new result }
 {
-    let entries = read_entries(change, number, page)?;
+    let entries = read_entries(calls, number, page)?;
     if entries.is_empty() {
         return Ok(Vec::new(alloc));
     }
-    let numbers = change.read_numbers(number)?;
+    let numbers = read_numbers(calls, number)?;
     let shown = numbered_after(alloc, page.offset, entries, &numbers)?;
     Ok(shown)
 }
 
 /// The entries of an action's history that are on a page.
 fn read_entries<S: Alter>(
-    change: &mut OpenChange<'_, S>,
+    calls: &mut Calls<S>,
     number: ActionNo,
     page: Page,
 ) -> Result<Vec<HistoryEntry>, Fault>
-    ensures stays { StaysIn S.Store change.old change.new result }
-    ensures reads { FindsAtListsIn S.Store change.old change.new result
+    ensures stays { StaysIn S.Store calls.old calls.new result }
+    ensures reads { FindsAtListsIn S.Store calls.old calls.new result
         (λ now found. found.items ≡ take page.limit (drop page.offset (history_of (item_numbered now.actions number)))) }
-    ensures fails { FailsAtListsIn S.Store change.old change.new result }
+    ensures fails { FailsAtListsIn S.Store calls.old calls.new result }
 {
-    let entries = change.read_entries(number, page)?;
+    let entries = desk_store::read_entries(calls, number, page)?;
     Ok(entries)
 }
 
@@ -222,15 +226,15 @@ fn count_of<T>(listed: &[T]) -> Result<u32, Fault>
 
 /// What is kept of the action of a number, where it is one of the target's.
 pub(crate) fn read_of_target<S: Alter>(
-    change: &mut OpenChange<'_, S>,
+    calls: &mut Calls<S>,
     id: ControllerId,
     number: ActionNo,
 ) -> Result<Option<StoredAction>, Fault>
-    ensures stays { StaysIn S.Store change.old change.new result }
-    ensures reads { FindsIn S.Store change.old change.new result (λ now found. found ≡ option_map (stored_in now) (action_of_target now id number)) }
-    ensures fails { FailsAtListsIn S.Store change.old change.new result }
+    ensures stays { StaysIn S.Store calls.old calls.new result }
+    ensures reads { FindsIn S.Store calls.old calls.new result (λ now found. found ≡ option_map (stored_in now) (action_of_target now id number)) }
+    ensures fails { FailsAtListsIn S.Store calls.old calls.new result }
 {
-    let found = match change.read_action(number)? {
+    let found = match read_action(calls, number)? {
         Some(found) => found,
         None => return Ok(None),
     };
@@ -243,16 +247,16 @@ pub(crate) fn read_of_target<S: Alter>(
 /// Actions that were listed, as they are shown.
 fn read_all_shown<S: Alter>(
     alloc: Global,
-    change: &mut OpenChange<'_, S>,
+    calls: &mut Calls<S>,
     listed: &[ListedAction],
 ) -> Result<Vec<Action>, Fault>
-    ensures stays { StaysIn S.Store change.old change.new result }
-    ensures reads { FindsAtListsIn S.Store change.old change.new result (λ now all. all.items ≡ map (listed_shown now) listed.now) }
-    ensures fails { FailsAtListsIn S.Store change.old change.new result }
+    ensures stays { StaysIn S.Store calls.old calls.new result }
+    ensures reads { FindsAtListsIn S.Store calls.old calls.new result (λ now all. all.items ≡ map (listed_shown now) listed.now) }
+    ensures fails { FailsAtListsIn S.Store calls.old calls.new result }
 {
     let mut all = Vec::new(alloc);
     for one in listed {
-        let shown = read_shown(change, one)?;
+        let shown = read_shown(calls, one)?;
         match all.push(shown) {
             Ok(()) => {}
             Err(_) => return Err(Fault::Memory),
@@ -292,15 +296,12 @@ fn holds_position(group: &GroupRecord, place: u32) -> bool
 }
 
 /// An action that was listed, as it is shown: its group tells whether it is started.
-fn read_shown<S: Alter>(
-    change: &mut OpenChange<'_, S>,
-    listed: &ListedAction,
-) -> Result<Action, Fault>
-    ensures stays { StaysIn S.Store change.old change.new result }
-    ensures reads { FindsAtListsIn S.Store change.old change.new result (λ now shown. shown ≡ listed_shown now listed.now) }
-    ensures fails { FailsAtListsIn S.Store change.old change.new result }
+fn read_shown<S: Alter>(calls: &mut Calls<S>, listed: &ListedAction) -> Result<Action, Fault>
+    ensures stays { StaysIn S.Store calls.old calls.new result }
+    ensures reads { FindsAtListsIn S.Store calls.old calls.new result (λ now shown. shown ≡ listed_shown now listed.now) }
+    ensures fails { FailsAtListsIn S.Store calls.old calls.new result }
 {
-    let group = change.read_holding_group(listed.action.rollout, listed.action.position)?;
+    let group = read_holding_group(calls, listed.action.rollout, listed.action.position)?;
     Ok(shown_in(*listed, group))
 }
 

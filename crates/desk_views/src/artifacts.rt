@@ -17,7 +17,9 @@ ghost use Rattle.desk_views.specs.Sizes.{AgreesIn, IsArtifactOf, KeepsSize};
 ghost use Rattle.desk_store.specs.Changing.{FindsIn, StaysIn};
 
 use crate::pages::{part_on, total_of};
-use desk_store::{Fault, OpenChange, StoredArtifact};
+use desk_store::{
+    Calls, Fault, StoredArtifact, read_artifact, read_module, read_module_artifacts, read_piece,
+};
 use rollout_model::limits::{ARTIFACT_SIZE_LIMIT, PIECE_LENGTH};
 use rollout_model::{Artifact, ArtifactNo, Contents, ModuleNo, Page, PageOf, Refusal, Reply};
 use sqlite::Alter;
@@ -29,33 +31,33 @@ const PIECE_LIMIT: u32 = (ARTIFACT_SIZE_LIMIT / PIECE_LENGTH) as u32;
 /// Shows a page of the artifacts of a module, in the order of their numbers.
 pub fn show_artifacts<S: Alter>(
     alloc: Global,
-    change: &mut OpenChange<'_, S>,
+    calls: &mut Calls<S>,
     module_number: ModuleNo,
     page: Page,
 ) -> Result<Reply, Fault>
-    ensures stays { StaysIn S.Store change.old change.new result }
-    ensures reads { FindsIn S.Store change.old change.new result (λ now reply. reply_of reply ≡ query_reply now (ShowArtifacts module_number page)) }
-    ensures fails { FailsAtListsIn S.Store change.old change.new result }
+    ensures stays { StaysIn S.Store calls.old calls.new result }
+    ensures reads { FindsIn S.Store calls.old calls.new result (λ now reply. reply_of reply ≡ query_reply now (ShowArtifacts module_number page)) }
+    ensures fails { FailsAtListsIn S.Store calls.old calls.new result }
 {
-    if change.read_module(module_number)?.is_none() {
+    if read_module(calls, module_number)?.is_none() {
         return Ok(Reply::Refused(Refusal::NotFound));
     }
-    let artifacts = change.read_module_artifacts(module_number)?;
+    let artifacts = read_module_artifacts(calls, module_number)?;
     let shown = part_of(alloc, &artifacts, page)?;
     Ok(Reply::Artifacts(shown))
 }
 
 /// Shows an artifact of a module by its number.
 pub fn show_artifact<S: Alter>(
-    change: &mut OpenChange<'_, S>,
+    calls: &mut Calls<S>,
     module_number: ModuleNo,
     number: ArtifactNo,
 ) -> Result<Reply, Fault>
-    ensures stays { StaysIn S.Store change.old change.new result }
-    ensures reads { FindsIn S.Store change.old change.new result (λ now reply. reply_of reply ≡ query_reply now (ShowArtifact module_number number)) }
-    ensures fails { FailsAtListsIn S.Store change.old change.new result }
+    ensures stays { StaysIn S.Store calls.old calls.new result }
+    ensures reads { FindsIn S.Store calls.old calls.new result (λ now reply. reply_of reply ≡ query_reply now (ShowArtifact module_number number)) }
+    ensures fails { FailsAtListsIn S.Store calls.old calls.new result }
 {
-    match read_of_module(change, module_number, number)? {
+    match read_of_module(calls, module_number, number)? {
         Some(found) => Ok(Reply::Artifact(shown_as(number, found))),
         None => Ok(Reply::Refused(Refusal::NotFound)),
     }
@@ -65,36 +67,36 @@ pub fn show_artifact<S: Alter>(
 /// contents have, the store has failed.
 pub fn show_contents<S: Alter>(
     alloc: Global,
-    change: &mut OpenChange<'_, S>,
+    calls: &mut Calls<S>,
     module_number: ModuleNo,
     number: ArtifactNo,
 ) -> Result<Reply, Fault>
-    ensures stays { StaysIn S.Store change.old change.new result }
-    ensures reads { FindsIn S.Store change.old change.new result (λ now reply. reply_of reply ≡ query_reply now (ShowContents module_number number)) }
-    ensures fails { FailsAtListsIn S.Store change.old change.new result }
-    ensures sized { AgreesIn S.Store change.old change.new result (λ t reply. KeepsSize t (ShowContents module_number number) (reply_of reply)) }
+    ensures stays { StaysIn S.Store calls.old calls.new result }
+    ensures reads { FindsIn S.Store calls.old calls.new result (λ now reply. reply_of reply ≡ query_reply now (ShowContents module_number number)) }
+    ensures fails { FailsAtListsIn S.Store calls.old calls.new result }
+    ensures sized { AgreesIn S.Store calls.old calls.new result (λ t reply. KeepsSize t (ShowContents module_number number) (reply_of reply)) }
 {
-    let found = match read_of_module(change, module_number, number)? {
+    let found = match read_of_module(calls, module_number, number)? {
         Some(found) => found,
         None => return Ok(Reply::Refused(Refusal::NotFound)),
     };
-    let contents = read_contents(alloc, change, number, found.size)?;
+    let contents = read_contents(alloc, calls, number, found.size)?;
     Ok(Reply::Contents(contents))
 }
 
 /// The contents of an artifact of this size. Where the pieces aren't as many bytes, or more than contents have, the store has failed.
 pub(crate) fn read_contents<S: Alter>(
     alloc: Global,
-    change: &mut OpenChange<'_, S>,
+    calls: &mut Calls<S>,
     number: ArtifactNo,
     size: u32,
 ) -> Result<Contents, Fault>
-    ensures stays { StaysIn S.Store change.old change.new result }
-    ensures reads { FindsIn S.Store change.old change.new result (λ now contents. contents ≡ contents_found (item_numbered now.artifacts number)) }
-    ensures fails { FailsWith S.Store (λ now. size ≡ length (contents_found (item_numbered now.artifacts number))) change.old change.new result }
+    ensures stays { StaysIn S.Store calls.old calls.new result }
+    ensures reads { FindsIn S.Store calls.old calls.new result (λ now contents. contents ≡ contents_found (item_numbered now.artifacts number)) }
+    ensures fails { FailsWith S.Store (λ now. size ≡ length (contents_found (item_numbered now.artifacts number))) calls.old calls.new result }
     ensures sized { IfOk result (λ contents. length contents ≡ size) }
 {
-    let bytes = read_pieces(alloc, change, number)?;
+    let bytes = read_pieces(alloc, calls, number)?;
     whole_contents(bytes, size)
 }
 
@@ -111,17 +113,17 @@ fn part_of(alloc: Global, all: &[Artifact], page: Page) -> Result<PageOf<Artifac
 
 /// What is kept of the artifact of a number, where it is one of the module's.
 fn read_of_module<S: Alter>(
-    change: &mut OpenChange<'_, S>,
+    calls: &mut Calls<S>,
     module_number: ModuleNo,
     number: ArtifactNo,
 ) -> Result<Option<StoredArtifact>, Fault>
-    ensures stays { StaysIn S.Store change.old change.new result }
-    ensures reads { FindsIn S.Store change.old change.new result
+    ensures stays { StaysIn S.Store calls.old calls.new result }
+    ensures reads { FindsIn S.Store calls.old calls.new result
         (λ now found. found ≡ option_map stored (artifact_of_module now module_number number)) }
-    ensures fails { FailsAtListsIn S.Store change.old change.new result }
-    ensures agrees { AgreesIn S.Store change.old change.new result (λ t found. IfSome found (IsArtifactOf t module_number number)) }
+    ensures fails { FailsAtListsIn S.Store calls.old calls.new result }
+    ensures agrees { AgreesIn S.Store calls.old calls.new result (λ t found. IfSome found (IsArtifactOf t module_number number)) }
 {
-    let found = match change.read_artifact(number)? {
+    let found = match read_artifact(calls, number)? {
         Some(found) => found,
         None => return Ok(None),
     };
@@ -146,17 +148,17 @@ fn shown_as(number: ArtifactNo, found: StoredArtifact) -> Artifact
 /// alone doesn't say which is the last one.
 fn read_pieces<S: Alter>(
     alloc: Global,
-    change: &mut OpenChange<'_, S>,
+    calls: &mut Calls<S>,
     number: ArtifactNo,
 ) -> Result<Vec<u8>, Fault>
-    ensures stays { StaysIn S.Store change.old change.new result }
-    ensures reads { FindsIn S.Store change.old change.new result (λ now bytes. bytes.items ≡ contents_found (item_numbered now.artifacts number)) }
-    ensures fails { FailsAtListsIn S.Store change.old change.new result }
+    ensures stays { StaysIn S.Store calls.old calls.new result }
+    ensures reads { FindsIn S.Store calls.old calls.new result (λ now bytes. bytes.items ≡ contents_found (item_numbered now.artifacts number)) }
+    ensures fails { FailsAtListsIn S.Store calls.old calls.new result }
 {
     let mut bytes = Vec::new(alloc);
     let mut pieces = 0;
     loop {
-        let found = change.read_piece(number, pieces + 1)?;
+        let found = read_piece(calls, number, pieces + 1)?;
         match within_limit(pieces, found)? {
             Some(piece) => append(&mut bytes, &piece)?,
             None => return Ok(bytes),

@@ -21,7 +21,10 @@ ghost use Rattle.desk_store.specs.KeptOffers.{IsKeptAs};
 use crate::artifacts::read_contents;
 use crate::devices::is_offer_of;
 use desk_reads::knows_device;
-use desk_store::{Fault, OpenChange, StoredRollout};
+use desk_store::{
+    Calls, Fault, StoredRollout, read_action, read_module, read_module_artifacts, read_offer,
+    read_rollout, read_set_modules,
+};
 use rollout_model::{
     ActionNo, Artifact, Chunk, ControllerId, Credential, Deployment, Filename, ModuleNo, Offer,
     Refusal, Reply, RolloutNo, SetNo,
@@ -32,23 +35,23 @@ use std::alloc::Global;
 /// Shows a device the deployment of the action that it is offered.
 pub fn show_deployment<S: Alter>(
     alloc: Global,
-    change: &mut OpenChange<'_, S>,
+    calls: &mut Calls<S>,
     device: &Credential,
     number: ActionNo,
 ) -> Result<Reply, Fault>
-    ensures stays { StaysIn S.Store change.old change.new result }
-    ensures reads { FindsIn S.Store change.old change.new result (λ now reply. reply_of reply ≡ query_reply now (ShowDeployment device.now number)) }
-    ensures kept { AgreesIn S.Store change.old change.new result (λ t reply. TellsKept t device.now.id (reply_of reply)) }
-    ensures fails { FailsAtListsIn S.Store change.old change.new result }
+    ensures stays { StaysIn S.Store calls.old calls.new result }
+    ensures reads { FindsIn S.Store calls.old calls.new result (λ now reply. reply_of reply ≡ query_reply now (ShowDeployment device.now number)) }
+    ensures kept { AgreesIn S.Store calls.old calls.new result (λ t reply. TellsKept t device.now.id (reply_of reply)) }
+    ensures fails { FailsAtListsIn S.Store calls.old calls.new result }
 {
-    if !knows_device(change, device)? {
+    if !knows_device(calls, device)? {
         return Ok(Reply::Refused(Refusal::Unauthorized));
     }
-    let offer = change.read_offer(&device.id)?;
+    let offer = read_offer(calls, &device.id)?;
     if !is_offer_of(offer, number, false) {
         return Ok(Reply::Refused(Refusal::NotFound));
     }
-    let chunks = read_chunks(alloc, change, number)?;
+    let chunks = read_chunks(alloc, calls, number)?;
     Ok(Reply::Deployment(Deployment {
         target: device.id,
         action: number,
@@ -59,51 +62,51 @@ pub fn show_deployment<S: Alter>(
 /// The modules that an action installs, with their artifacts.
 fn read_chunks<S: Alter>(
     alloc: Global,
-    change: &mut OpenChange<'_, S>,
+    calls: &mut Calls<S>,
     number: ActionNo,
 ) -> Result<Vec<Chunk>, Fault>
-    ensures stays { StaysIn S.Store change.old change.new result }
-    ensures reads { FindsIn S.Store change.old change.new result
+    ensures stays { StaysIn S.Store calls.old calls.new result }
+    ensures reads { FindsIn S.Store calls.old calls.new result
         (λ now chunks. map chunk chunks.items ≡ chunks_of now (modules_of_action now (item_numbered now.actions number))) }
-    ensures fails { FailsAtListsIn S.Store change.old change.new result }
+    ensures fails { FailsAtListsIn S.Store calls.old calls.new result }
 {
-    let modules = read_action_modules(alloc, change, number)?;
-    read_module_chunks(alloc, change, modules)
+    let modules = read_action_modules(alloc, calls, number)?;
+    read_module_chunks(alloc, calls, modules)
 }
 
 /// These modules, with their artifacts.
 fn read_module_chunks<S: Alter>(
     alloc: Global,
-    change: &mut OpenChange<'_, S>,
+    calls: &mut Calls<S>,
     modules: Vec<ModuleNo>,
 ) -> Result<Vec<Chunk>, Fault>
-    ensures stays { StaysIn S.Store change.old change.new result }
-    ensures reads { FindsIn S.Store change.old change.new result (λ now chunks. map chunk chunks.items ≡ chunks_of now modules.items) }
-    ensures fails { FailsAtListsIn S.Store change.old change.new result }
+    ensures stays { StaysIn S.Store calls.old calls.new result }
+    ensures reads { FindsIn S.Store calls.old calls.new result (λ now chunks. map chunk chunks.items ≡ chunks_of now modules.items) }
+    ensures fails { FailsAtListsIn S.Store calls.old calls.new result }
 {
     let mut chunks = Vec::new(alloc);
     for module_number in modules {
-        add_chunk(change, module_number, &mut chunks)?;
+        add_chunk(calls, module_number, &mut chunks)?;
     }
     Ok(chunks)
 }
 
 /// Adds a module with its artifacts, where it is there.
 fn add_chunk<S: Alter>(
-    change: &mut OpenChange<'_, S>,
+    calls: &mut Calls<S>,
     module_number: ModuleNo,
     chunks: &mut Vec<Chunk>,
 ) -> Result<(), Fault>
-    ensures stays { StaysIn S.Store change.old change.new result }
-    ensures reads { FindsIn S.Store change.old change.new result
+    ensures stays { StaysIn S.Store calls.old calls.new result }
+    ensures reads { FindsIn S.Store calls.old calls.new result
         (λ now _. map chunk chunks.new.items ≡ map chunk chunks.old.items ++ chunks_of_module now module_number (item_numbered now.modules module_number)) }
-    ensures fails { FailsAtListsIn S.Store change.old change.new result }
+    ensures fails { FailsAtListsIn S.Store calls.old calls.new result }
 {
-    let label = match change.read_module(module_number)? {
+    let label = match read_module(calls, module_number)? {
         Some(label) => label,
         None => return Ok(()),
     };
-    let artifacts = change.read_module_artifacts(module_number)?;
+    let artifacts = read_module_artifacts(calls, module_number)?;
     let chunk = Chunk {
         module_number,
         label,
@@ -116,16 +119,16 @@ fn add_chunk<S: Alter>(
 /// The modules that an action installs, in the order of its set.
 fn read_action_modules<S: Alter>(
     alloc: Global,
-    change: &mut OpenChange<'_, S>,
+    calls: &mut Calls<S>,
     number: ActionNo,
 ) -> Result<Vec<ModuleNo>, Fault>
-    ensures stays { StaysIn S.Store change.old change.new result }
-    ensures keeps { KeepsTables S.Store change.old change.new result }
-    ensures reads { FindsIn S.Store change.old change.new result (λ now modules. modules.items ≡ modules_of_action now (item_numbered now.actions number)) }
-    ensures fails { FailsAtListsIn S.Store change.old change.new result }
+    ensures stays { StaysIn S.Store calls.old calls.new result }
+    ensures keeps { KeepsTables S.Store calls.old calls.new result }
+    ensures reads { FindsIn S.Store calls.old calls.new result (λ now modules. modules.items ≡ modules_of_action now (item_numbered now.actions number)) }
+    ensures fails { FailsAtListsIn S.Store calls.old calls.new result }
 {
-    match change.read_action(number)? {
-        Some(action) => read_rollout_modules(alloc, change, action.rollout),
+    match read_action(calls, number)? {
+        Some(action) => read_rollout_modules(alloc, calls, action.rollout),
         None => Ok(Vec::new(alloc)),
     }
 }
@@ -133,17 +136,17 @@ fn read_action_modules<S: Alter>(
 /// The modules that a rollout installs, in the order of its set.
 fn read_rollout_modules<S: Alter>(
     alloc: Global,
-    change: &mut OpenChange<'_, S>,
+    calls: &mut Calls<S>,
     number: RolloutNo,
 ) -> Result<Vec<ModuleNo>, Fault>
-    ensures stays { StaysIn S.Store change.old change.new result }
-    ensures keeps { KeepsTables S.Store change.old change.new result }
-    ensures reads { FindsIn S.Store change.old change.new result (λ now modules. modules.items ≡ modules_of_rollout now (item_numbered now.rollouts number)) }
-    ensures fails { FailsAtListsIn S.Store change.old change.new result }
+    ensures stays { StaysIn S.Store calls.old calls.new result }
+    ensures keeps { KeepsTables S.Store calls.old calls.new result }
+    ensures reads { FindsIn S.Store calls.old calls.new result (λ now modules. modules.items ≡ modules_of_rollout now (item_numbered now.rollouts number)) }
+    ensures fails { FailsAtListsIn S.Store calls.old calls.new result }
 {
-    let found = change.read_rollout(number)?;
+    let found = read_rollout(calls, number.get())?;
     match set_of(&found) {
-        Some(set_number) => change.read_set_modules(set_number),
+        Some(set_number) => read_set_modules(calls, set_number),
         None => Ok(Vec::new(alloc)),
     }
 }
@@ -161,21 +164,21 @@ fn set_of(found: &Option<StoredRollout>) -> Option<SetNo>
 /// Shows a device the contents of an artifact of what it is offered as a deployment.
 pub fn show_download<S: Alter>(
     alloc: Global,
-    change: &mut OpenChange<'_, S>,
+    calls: &mut Calls<S>,
     device: &Credential,
     module_number: ModuleNo,
     filename: &Filename,
 ) -> Result<Reply, Fault>
-    ensures stays { StaysIn S.Store change.old change.new result }
-    ensures reads { FindsIn S.Store change.old change.new result
+    ensures stays { StaysIn S.Store calls.old calls.new result }
+    ensures reads { FindsIn S.Store calls.old calls.new result
         (λ now reply. reply_of reply ≡ query_reply now (Download device.now module_number filename.now)) }
-    ensures fails { FailsAtListsIn S.Store change.old change.new result }
-    ensures sized { AgreesIn S.Store change.old change.new result (λ t reply. KeepsSize t (Download device.now module_number filename.now) (reply_of reply)) }
-    ensures kept { AgreesIn S.Store change.old change.new result (λ t reply. TellsKept t device.now.id (reply_of reply)) }
+    ensures fails { FailsAtListsIn S.Store calls.old calls.new result }
+    ensures sized { AgreesIn S.Store calls.old calls.new result (λ t reply. KeepsSize t (Download device.now module_number filename.now) (reply_of reply)) }
+    ensures kept { AgreesIn S.Store calls.old calls.new result (λ t reply. TellsKept t device.now.id (reply_of reply)) }
 {
-    match find_download(alloc, change, device, module_number, filename)? {
+    match find_download(alloc, calls, device, module_number, filename)? {
         Ok(artifact) => {
-            let contents = read_contents(alloc, change, artifact.number, artifact.size)?;
+            let contents = read_contents(alloc, calls, artifact.number, artifact.size)?;
             Ok(Reply::Contents(contents))
         }
         Err(refusal) => Ok(Reply::Refused(refusal)),
@@ -185,42 +188,42 @@ pub fn show_download<S: Alter>(
 /// Finds the artifact whose contents a device asks for, or else what the download is refused with.
 pub fn find_download<S: Alter>(
     alloc: Global,
-    change: &mut OpenChange<'_, S>,
+    calls: &mut Calls<S>,
     device: &Credential,
     module_number: ModuleNo,
     filename: &Filename,
 ) -> Result<Result<Artifact, Refusal>, Fault>
-    ensures stays { StaysIn S.Store change.old change.new result }
-    ensures reads { FindsIn S.Store change.old change.new result (λ now found. found ≡ downloadable now device.now module_number filename.now) }
-    ensures fails { FailsAtListsIn S.Store change.old change.new result }
-    ensures agrees { AgreesIn S.Store change.old change.new result (λ t found. IfOk found (IsOfName t module_number filename.now)) }
-    ensures kept { AgreesIn S.Store change.old change.new result (λ t found. IfOk found (λ _. (action : ℕ) × IsKeptAs t device.now.id action)) }
+    ensures stays { StaysIn S.Store calls.old calls.new result }
+    ensures reads { FindsIn S.Store calls.old calls.new result (λ now found. found ≡ downloadable now device.now module_number filename.now) }
+    ensures fails { FailsAtListsIn S.Store calls.old calls.new result }
+    ensures agrees { AgreesIn S.Store calls.old calls.new result (λ t found. IfOk found (IsOfName t module_number filename.now)) }
+    ensures kept { AgreesIn S.Store calls.old calls.new result (λ t found. IfOk found (λ _. (action : ℕ) × IsKeptAs t device.now.id action)) }
 {
-    if !knows_device(change, device)? {
+    if !knows_device(calls, device)? {
         return Ok(Err(Refusal::Unauthorized));
     }
-    let modules = read_offered_modules(alloc, change, &device.id)?;
+    let modules = read_offered_modules(alloc, calls, &device.id)?;
     if !is_among(&modules, module_number) {
         return Ok(Err(Refusal::NotFound));
     }
-    let artifacts = change.read_module_artifacts(module_number)?;
+    let artifacts = read_module_artifacts(calls, module_number)?;
     Ok(named(&artifacts, filename))
 }
 
 /// The modules of what a target is offered as a deployment.
 fn read_offered_modules<S: Alter>(
     alloc: Global,
-    change: &mut OpenChange<'_, S>,
+    calls: &mut Calls<S>,
     id: &ControllerId,
 ) -> Result<Vec<ModuleNo>, Fault>
-    ensures stays { StaysIn S.Store change.old change.new result }
-    ensures keeps { KeepsTables S.Store change.old change.new result }
-    ensures reads { FindsIn S.Store change.old change.new result (λ now modules. modules.items ≡ modules_offered now (offer now id.now)) }
-    ensures kept { AgreesIn S.Store change.old change.new result (λ t modules. AreKept t id.now modules.items) }
-    ensures fails { FailsAtListsIn S.Store change.old change.new result }
+    ensures stays { StaysIn S.Store calls.old calls.new result }
+    ensures keeps { KeepsTables S.Store calls.old calls.new result }
+    ensures reads { FindsIn S.Store calls.old calls.new result (λ now modules. modules.items ≡ modules_offered now (offer now id.now)) }
+    ensures kept { AgreesIn S.Store calls.old calls.new result (λ t modules. AreKept t id.now modules.items) }
+    ensures fails { FailsAtListsIn S.Store calls.old calls.new result }
 {
-    match change.read_offer(id)? {
-        Some(offer) => read_installed(alloc, change, offer),
+    match read_offer(calls, id)? {
+        Some(offer) => read_installed(alloc, calls, offer),
         None => Ok(Vec::new(alloc)),
     }
 }
@@ -228,19 +231,19 @@ fn read_offered_modules<S: Alter>(
 /// The modules that an offer installs: none where it is a cancel.
 fn read_installed<S: Alter>(
     alloc: Global,
-    change: &mut OpenChange<'_, S>,
+    calls: &mut Calls<S>,
     offer: Offer,
 ) -> Result<Vec<ModuleNo>, Fault>
-    ensures stays { StaysIn S.Store change.old change.new result }
-    ensures keeps { KeepsTables S.Store change.old change.new result }
-    ensures reads { FindsIn S.Store change.old change.new result (λ now modules. modules.items ≡ modules_offered now (Some offer)) }
+    ensures stays { StaysIn S.Store calls.old calls.new result }
+    ensures keeps { KeepsTables S.Store calls.old calls.new result }
+    ensures reads { FindsIn S.Store calls.old calls.new result (λ now modules. modules.items ≡ modules_offered now (Some offer)) }
     ensures none { IfOk result (λ modules. offer.canceling ≡ true → modules.items ≡ []) }
-    ensures fails { FailsAtListsIn S.Store change.old change.new result }
+    ensures fails { FailsAtListsIn S.Store calls.old calls.new result }
 {
     if offer.canceling {
         return Ok(Vec::new(alloc));
     }
-    read_action_modules(alloc, change, offer.action)
+    read_action_modules(alloc, calls, offer.action)
 }
 
 fn is_among(numbers: &[ModuleNo], number: ModuleNo) -> bool

@@ -10,42 +10,39 @@ ghost use Rattle.desk_views.specs.Kept.{TellsKept};
 ghost use Rattle.desk_views.specs.Sizes.{AgreesIn};
 
 use desk_reads::knows_device;
-use desk_store::{Fault, OpenChange};
+use desk_store::{Calls, Fault, read_offer};
 use rollout_model::{ActionNo, Credential, Offer, Refusal, Reply};
 use sqlite::Alter;
 
 /// Shows a device what it is offered.
-pub fn show_poll<S: Alter>(
-    change: &mut OpenChange<'_, S>,
-    device: &Credential,
-) -> Result<Reply, Fault>
-    ensures stays { StaysIn S.Store change.old change.new result }
-    ensures reads { FindsIn S.Store change.old change.new result (λ now reply. reply_of reply ≡ query_reply now (Poll device.now)) }
-    ensures kept { AgreesIn S.Store change.old change.new result (λ t reply. TellsKept t device.now.id (reply_of reply)) }
-    ensures fails { FailsAtListsIn S.Store change.old change.new result }
+pub fn show_poll<S: Alter>(calls: &mut Calls<S>, device: &Credential) -> Result<Reply, Fault>
+    ensures stays { StaysIn S.Store calls.old calls.new result }
+    ensures reads { FindsIn S.Store calls.old calls.new result (λ now reply. reply_of reply ≡ query_reply now (Poll device.now)) }
+    ensures kept { AgreesIn S.Store calls.old calls.new result (λ t reply. TellsKept t device.now.id (reply_of reply)) }
+    ensures fails { FailsAtListsIn S.Store calls.old calls.new result }
 {
-    if !knows_device(change, device)? {
+    if !knows_device(calls, device)? {
         return Ok(Reply::Refused(Refusal::Unauthorized));
     }
-    let offer = change.read_offer(&device.id)?;
+    let offer = read_offer(calls, &device.id)?;
     Ok(Reply::Poll(device.id, offer))
 }
 
 /// Shows a device the cancel that it is offered.
 pub fn show_cancel<S: Alter>(
-    change: &mut OpenChange<'_, S>,
+    calls: &mut Calls<S>,
     device: &Credential,
     number: ActionNo,
 ) -> Result<Reply, Fault>
-    ensures stays { StaysIn S.Store change.old change.new result }
-    ensures reads { FindsIn S.Store change.old change.new result (λ now reply. reply_of reply ≡ query_reply now (ShowCancel device.now number)) }
-    ensures kept { AgreesIn S.Store change.old change.new result (λ t reply. TellsKept t device.now.id (reply_of reply)) }
-    ensures fails { FailsAtListsIn S.Store change.old change.new result }
+    ensures stays { StaysIn S.Store calls.old calls.new result }
+    ensures reads { FindsIn S.Store calls.old calls.new result (λ now reply. reply_of reply ≡ query_reply now (ShowCancel device.now number)) }
+    ensures kept { AgreesIn S.Store calls.old calls.new result (λ t reply. TellsKept t device.now.id (reply_of reply)) }
+    ensures fails { FailsAtListsIn S.Store calls.old calls.new result }
 {
-    if !knows_device(change, device)? {
+    if !knows_device(calls, device)? {
         return Ok(Reply::Refused(Refusal::Unauthorized));
     }
-    let offer = change.read_offer(&device.id)?;
+    let offer = read_offer(calls, &device.id)?;
     if !is_offer_of(offer, number, true) {
         return Ok(Reply::Refused(Refusal::NotFound));
     }

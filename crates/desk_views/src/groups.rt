@@ -21,7 +21,7 @@ use crate::pages::{count_on, part_on};
 use crate::targets::read_targets;
 use campaign_core::{GroupStatus, group_word};
 use desk_reads::{SeenRollout, read_seen_rollout, size_of};
-use desk_store::{Fault, OpenChange};
+use desk_store::{Calls, Fault, read_group, read_members, read_rule, read_rules};
 use rollout_machine::{Bounds, GroupRecord};
 use rollout_model::{Group, GroupRule, Page, PageOf, Refusal, Reply, RolloutNo};
 use sqlite::Alter;
@@ -30,58 +30,58 @@ use std::alloc::Global;
 /// Shows a page of the groups of a rollout, in their order.
 pub fn show_groups<S: Alter>(
     alloc: Global,
-    change: &mut OpenChange<'_, S>,
+    calls: &mut Calls<S>,
     number: RolloutNo,
     page: Page,
 ) -> Result<Reply, Fault>
-    ensures stays { StaysIn S.Store change.old change.new result }
-    ensures shows { ShowsIn S.Store change.old change.new (ShowGroups number page) result }
-    ensures fails { FailsAtListsIn S.Store change.old change.new result }
+    ensures stays { StaysIn S.Store calls.old calls.new result }
+    ensures shows { ShowsIn S.Store calls.old calls.new (ShowGroups number page) result }
+    ensures fails { FailsAtListsIn S.Store calls.old calls.new result }
 {
-    let seen = match read_seen_rollout(change, number)? {
+    let seen = match read_seen_rollout(calls, number)? {
         Some(seen) => seen,
         None => return Ok(Reply::Refused(Refusal::NotFound)),
     };
-    let rules = change.read_rules(number)?;
+    let rules = read_rules(calls, number)?;
     let shown = page_shown(alloc, &seen, &rules, page)?;
     Ok(Reply::Groups(shown))
 }
 
 /// Shows a group of a rollout by its number in there.
 pub fn show_group<S: Alter>(
-    change: &mut OpenChange<'_, S>,
+    calls: &mut Calls<S>,
     number: RolloutNo,
     group: u32,
 ) -> Result<Reply, Fault>
-    ensures stays { StaysIn S.Store change.old change.new result }
-    ensures shows { ShowsIn S.Store change.old change.new (ShowGroup number group) result }
-    ensures fails { FailsAtListsIn S.Store change.old change.new result }
+    ensures stays { StaysIn S.Store calls.old calls.new result }
+    ensures shows { ShowsIn S.Store calls.old calls.new (ShowGroup number group) result }
+    ensures fails { FailsAtListsIn S.Store calls.old calls.new result }
 {
-    let seen = match read_seen_rollout(change, number)? {
+    let seen = match read_seen_rollout(calls, number)? {
         Some(seen) => seen,
         None => return Ok(Reply::Refused(Refusal::NotFound)),
     };
-    let found = match change.read_group(number, group)? {
+    let found = match read_group(calls, number, group)? {
         Some(found) => found,
         None => return Ok(Reply::Refused(Refusal::NotFound)),
     };
-    let shown = read_shown_group(change, number, &seen, &found)?;
+    let shown = read_shown_group(calls, number, &seen, &found)?;
     Ok(Reply::Group(shown))
 }
 
 /// A group of a rollout that is there, as it is shown. Where it has no rule, the store has failed.
 fn read_shown_group<S: Alter>(
-    change: &mut OpenChange<'_, S>,
+    calls: &mut Calls<S>,
     number: RolloutNo,
     seen: &SeenRollout,
     group: &GroupRecord,
 ) -> Result<Group, Fault>
-    ensures stays { StaysIn S.Store change.old change.new result }
-    ensures reads { FindsIn S.Store change.old change.new result
+    ensures stays { StaysIn S.Store calls.old calls.new result }
+    ensures reads { FindsIn S.Store calls.old calls.new result
         (λ now shown. (x : RolloutRecord) → item_numbered now.rollouts number ≡ Some x → IsSeenOf seen.now x → shown ≡ group_shown x group.now) }
-    ensures fails { FailsWith S.Store (IsGroupOf number group.now) change.old change.new result }
+    ensures fails { FailsWith S.Store (IsGroupOf number group.now) calls.old calls.new result }
 {
-    match change.read_rule(number, group.number)? {
+    match read_rule(calls, number, group.number)? {
         Some(rule) => shown_in(seen, rule, group),
         None => Err(Fault::Broken),
     }
@@ -90,22 +90,22 @@ fn read_shown_group<S: Alter>(
 /// Shows a page of the members of a group of a rollout, in byte order of their ids.
 pub fn show_group_targets<S: Alter>(
     alloc: Global,
-    change: &mut OpenChange<'_, S>,
+    calls: &mut Calls<S>,
     number: RolloutNo,
     group: u32,
     page: Page,
 ) -> Result<Reply, Fault>
-    ensures stays { StaysIn S.Store change.old change.new result }
-    ensures shows { ShowsIn S.Store change.old change.new (ShowGroupTargets number group page) result }
-    ensures fails { FailsAtListsIn S.Store change.old change.new result }
+    ensures stays { StaysIn S.Store calls.old calls.new result }
+    ensures shows { ShowsIn S.Store calls.old calls.new (ShowGroupTargets number group page) result }
+    ensures fails { FailsAtListsIn S.Store calls.old calls.new result }
 {
-    let found = match change.read_group(number, group)? {
+    let found = match read_group(calls, number, group)? {
         Some(found) => found,
         None => return Ok(Reply::Refused(Refusal::NotFound)),
     };
     let total = count_of(&found)?;
-    let members = change.read_members(number, members_on(&found, total, page))?;
-    let content = read_targets(alloc, change, &members)?;
+    let members = read_members(calls, number, members_on(&found, total, page))?;
+    let content = read_targets(alloc, calls, &members)?;
     Ok(Reply::Targets(PageOf { content, total }))
 }
 

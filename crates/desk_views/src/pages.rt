@@ -13,7 +13,7 @@ ghost use Rattle.desk_reads.specs.AtLists.{AreOfList, FailsAtListsIn, FailsWith}
 ghost use Rattle.desk_store.specs.Changing.{FindsIn, StaysIn};
 ghost use Rattle.desk_store.specs.private.Rows.{IfRowsBroken};
 
-use desk_store::{Fault, OpenChange};
+use desk_store::{Calls, Fault};
 use rollout_model::{Number, Page, PageOf};
 use sqlite::Alter;
 use std::alloc::Global;
@@ -34,20 +34,17 @@ pub(crate) trait Numbered<S: Alter>: Sized + Drop {
     ghost given: { Records → Type 0 };
 
     /// How many there are.
-    fn read_count(change: &mut OpenChange<'_, S>) -> Result<u32, Fault>
-        ensures stays { StaysIn S.Store change.old change.new result }
-        ensures reads { FindsIn S.Store change.old change.new result (λ now count. count ≡ length (items now)) }
-        ensures fails { FailsAtListsIn S.Store change.old change.new result };
+    fn read_count(calls: &mut Calls<S>) -> Result<u32, Fault>
+        ensures stays { StaysIn S.Store calls.old calls.new result }
+        ensures reads { FindsIn S.Store calls.old calls.new result (λ now count. count ≡ length (items now)) }
+        ensures fails { FailsAtListsIn S.Store calls.old calls.new result };
 
     /// The one of a number.
-    fn read_shown(
-        change: &mut OpenChange<'_, S>,
-        number: &Number<Self::Kind>,
-    ) -> Result<Option<Self>, Fault>
-        ensures stays { StaysIn S.Store change.old change.new result }
-        ensures reads { FindsIn S.Store change.old change.new result
+    fn read_shown(calls: &mut Calls<S>, number: &Number<Self::Kind>) -> Result<Option<Self>, Fault>
+        ensures stays { StaysIn S.Store calls.old calls.new result }
+        ensures reads { FindsIn S.Store calls.old calls.new result
             (λ now found. given now → found ≡ option_map (shown now number.now) (item_numbered (items now) number.now)) }
-        ensures fails { FailsAtListsIn S.Store change.old change.new result };
+        ensures fails { FailsAtListsIn S.Store calls.old calls.new result };
 
     // it is known at lists of accepted commands
     ghost known: { (r : Records) → AreOfList r → given r };
@@ -59,37 +56,34 @@ pub(crate) trait Numbered<S: Alter>: Sized + Drop {
 /// A page of what is shown by its number. Its memory is taken once it is known how many there are.
 pub(crate) fn read_page<T: Numbered<S>, S: Alter>(
     alloc: Global,
-    change: &mut OpenChange<'_, S>,
+    calls: &mut Calls<S>,
     page: Page,
 ) -> Result<PageOf<T>, Fault>
-    ensures stays { StaysIn S.Store change.old change.new result }
-    ensures reads { FindsIn S.Store change.old change.new result
+    ensures stays { StaysIn S.Store calls.old calls.new result }
+    ensures reads { FindsIn S.Store calls.old calls.new result
         (λ now shown. T.given now → listed shown ≡ page_of page (numbered (T.shown now) 1 (T.items now))) }
-    ensures fails { FailsAtListsIn S.Store change.old change.new result }
+    ensures fails { FailsAtListsIn S.Store calls.old calls.new result }
 {
-    let total = T::read_count(change)?;
+    let total = T::read_count(calls)?;
     let mut content = Vec::new(alloc);
     for place in 0..count_on(page, total) {
-        let entry = read_entry::<T, S>(change, page.offset + place + 1)?;
+        let entry = read_entry::<T, S>(calls, page.offset + place + 1)?;
         content.push(entry)?;
     }
     Ok(PageOf { content, total })
 }
 
 /// The one of a number up to the last one. Where it isn't there the store has failed.
-fn read_entry<T: Numbered<S>, S: Alter>(
-    change: &mut OpenChange<'_, S>,
-    number: u32,
-) -> Result<T, Fault>
-    ensures stays { StaysIn S.Store change.old change.new result }
-    ensures reads { FindsIn S.Store change.old change.new result
+fn read_entry<T: Numbered<S>, S: Alter>(calls: &mut Calls<S>, number: u32) -> Result<T, Fault>
+    ensures stays { StaysIn S.Store calls.old calls.new result }
+    ensures reads { FindsIn S.Store calls.old calls.new result
         (λ now entry. T.given now → item_numbered (numbered (T.shown now) 1 (T.items now)) number ≡ Some entry) }
-    ensures fails { FailsWith S.Store (λ now. (1 ≤ number) × (number ≤ length (T.items now))) change.old change.new result }
+    ensures fails { FailsWith S.Store (λ now. (1 ≤ number) × (number ≤ length (T.items now))) calls.old calls.new result }
 {
     let Some(number) = Number::new(number) else {
         return Err(Fault::Broken);
     };
-    match T::read_shown(change, &number)? {
+    match T::read_shown(calls, &number)? {
         Some(shown) => Ok(shown),
         None => Err(Fault::Broken),
     }

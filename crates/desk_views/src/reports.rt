@@ -16,7 +16,7 @@ ghost use Rattle.desk_store.specs.Changing.{StaysIn};
 use crate::groups::all_shown;
 use crate::rollouts::shown;
 use desk_reads::{SeenRollout, read_seen_rollout};
-use desk_store::{Fault, OpenChange};
+use desk_store::{Calls, Fault, read_rules};
 use rollout_model::{GroupRule, Refusal, Reply, RolloutNo, RolloutReport};
 use sqlite::Alter;
 use std::alloc::Global;
@@ -24,18 +24,18 @@ use std::alloc::Global;
 /// Shows a rollout with all its groups.
 pub fn show_report<S: Alter>(
     alloc: Global,
-    change: &mut OpenChange<'_, S>,
+    calls: &mut Calls<S>,
     number: RolloutNo,
 ) -> Result<Reply, Fault>
-    ensures stays { StaysIn S.Store change.old change.new result }
-    ensures shows { ShowsIn S.Store change.old change.new (ShowReport number) result }
-    ensures fails { FailsAtListsIn S.Store change.old change.new result }
+    ensures stays { StaysIn S.Store calls.old calls.new result }
+    ensures shows { ShowsIn S.Store calls.old calls.new (ShowReport number) result }
+    ensures fails { FailsAtListsIn S.Store calls.old calls.new result }
 {
-    let seen = match read_seen_rollout(change, number)? {
+    let seen = match read_seen_rollout(calls, number)? {
         Some(seen) => seen,
         None => return Ok(Reply::Refused(Refusal::NotFound)),
     };
-    let rules = change.read_rules(number)?;
+    let rules = read_rules(calls, number)?;
     let whole = report_of(alloc, seen, &rules)?;
     Ok(Reply::Report(whole))
 }

@@ -12,7 +12,7 @@ ghost use Rattle.desk_store.specs.Changing.{StaysIn};
 
 use crate::pages::{Numbered, read_page};
 use desk_reads::{SeenRollout, read_seen_rollout};
-use desk_store::{Fault, OpenChange};
+use desk_store::{Calls, Fault, read_last_rollout};
 use rollout_model::{Page, Refusal, Reply, Rollout, RolloutKind, RolloutNo};
 use sqlite::Alter;
 use std::alloc::Global;
@@ -36,15 +36,12 @@ pub(crate) fn shown(seen: SeenRollout) -> Rollout
 }
 
 /// Shows the rollout of a number.
-pub fn show_rollout<S: Alter>(
-    change: &mut OpenChange<'_, S>,
-    number: RolloutNo,
-) -> Result<Reply, Fault>
-    ensures stays { StaysIn S.Store change.old change.new result }
-    ensures shows { ShowsIn S.Store change.old change.new (ShowRollout number) result }
-    ensures fails { FailsAtListsIn S.Store change.old change.new result }
+pub fn show_rollout<S: Alter>(calls: &mut Calls<S>, number: RolloutNo) -> Result<Reply, Fault>
+    ensures stays { StaysIn S.Store calls.old calls.new result }
+    ensures shows { ShowsIn S.Store calls.old calls.new (ShowRollout number) result }
+    ensures fails { FailsAtListsIn S.Store calls.old calls.new result }
 {
-    match Rollout::read_shown(change, &number)? {
+    match Rollout::read_shown(calls, &number)? {
         Some(shown) => Ok(Reply::Rollout(shown)),
         None => Ok(Reply::Refused(Refusal::NotFound)),
     }
@@ -53,14 +50,14 @@ pub fn show_rollout<S: Alter>(
 /// Shows a page of the rollouts, in the order of their numbers.
 pub fn show_rollouts<S: Alter>(
     alloc: Global,
-    change: &mut OpenChange<'_, S>,
+    calls: &mut Calls<S>,
     page: Page,
 ) -> Result<Reply, Fault>
-    ensures stays { StaysIn S.Store change.old change.new result }
-    ensures shows { ShowsIn S.Store change.old change.new (ShowRollouts page) result }
-    ensures fails { FailsAtListsIn S.Store change.old change.new result }
+    ensures stays { StaysIn S.Store calls.old calls.new result }
+    ensures shows { ShowsIn S.Store calls.old calls.new (ShowRollouts page) result }
+    ensures fails { FailsAtListsIn S.Store calls.old calls.new result }
 {
-    let shown = read_page::<Rollout, S>(alloc, change, page)?;
+    let shown = read_page::<Rollout, S>(alloc, calls, page)?;
     Ok(Reply::Rollouts(shown))
 }
 
@@ -75,15 +72,12 @@ impl<S: Alter> Numbered<S> for Rollout {
 
     ghost given = { AreOfList };
 
-    fn read_count(change: &mut OpenChange<'_, S>) -> Result<u32, Fault> {
-        change.read_last_rollout()
+    fn read_count(calls: &mut Calls<S>) -> Result<u32, Fault> {
+        read_last_rollout(calls)
     }
 
-    fn read_shown(
-        change: &mut OpenChange<'_, S>,
-        number: &RolloutNo,
-    ) -> Result<Option<Rollout>, Fault> {
-        match read_seen_rollout(change, *number)? {
+    fn read_shown(calls: &mut Calls<S>, number: &RolloutNo) -> Result<Option<Rollout>, Fault> {
+        match read_seen_rollout(calls, *number)? {
             Some(seen) => Ok(Some(shown(seen))),
             None => Ok(None),
         }

@@ -13,7 +13,7 @@ ghost use Rattle.desk_store.specs.Changing.{FindsIn, StaysIn};
 ghost use Rattle.desk_reads.proofs.LabelRules.{few_sets};
 
 use crate::pages::{Numbered, read_page};
-use desk_store::{Fault, OpenChange, SetName};
+use desk_store::{Calls, Fault, SetName, read_last_set, read_set, read_set_modules};
 use rollout_model::{
     DistributionSet, ModuleList, ModuleNo, Page, Refusal, Reply, SetKind, SetLabel, SetNo,
 };
@@ -21,28 +21,24 @@ use sqlite::Alter;
 use std::alloc::Global;
 
 /// Shows the set of a number, with its modules in their order.
-pub fn show_set<S: Alter>(change: &mut OpenChange<'_, S>, number: SetNo) -> Result<Reply, Fault>
-    ensures stays { StaysIn S.Store change.old change.new result }
-    ensures reads { FindsIn S.Store change.old change.new result (λ now reply. reply_of reply ≡ query_reply now (ShowSet number)) }
-    ensures fails { FailsAtListsIn S.Store change.old change.new result }
+pub fn show_set<S: Alter>(calls: &mut Calls<S>, number: SetNo) -> Result<Reply, Fault>
+    ensures stays { StaysIn S.Store calls.old calls.new result }
+    ensures reads { FindsIn S.Store calls.old calls.new result (λ now reply. reply_of reply ≡ query_reply now (ShowSet number)) }
+    ensures fails { FailsAtListsIn S.Store calls.old calls.new result }
 {
-    match DistributionSet::read_shown(change, &number)? {
+    match DistributionSet::read_shown(calls, &number)? {
         Some(shown) => Ok(Reply::Set(shown)),
         None => Ok(Reply::Refused(Refusal::NotFound)),
     }
 }
 
 /// Shows a page of the sets, in the order of their numbers.
-pub fn show_sets<S: Alter>(
-    alloc: Global,
-    change: &mut OpenChange<'_, S>,
-    page: Page,
-) -> Result<Reply, Fault>
-    ensures stays { StaysIn S.Store change.old change.new result }
-    ensures reads { FindsIn S.Store change.old change.new result (λ now reply. reply_of reply ≡ query_reply now (ShowSets page)) }
-    ensures fails { FailsAtListsIn S.Store change.old change.new result }
+pub fn show_sets<S: Alter>(alloc: Global, calls: &mut Calls<S>, page: Page) -> Result<Reply, Fault>
+    ensures stays { StaysIn S.Store calls.old calls.new result }
+    ensures reads { FindsIn S.Store calls.old calls.new result (λ now reply. reply_of reply ≡ query_reply now (ShowSets page)) }
+    ensures fails { FailsAtListsIn S.Store calls.old calls.new result }
 {
-    let shown = read_page::<DistributionSet, S>(alloc, change, page)?;
+    let shown = read_page::<DistributionSet, S>(alloc, calls, page)?;
     Ok(Reply::Sets(shown))
 }
 
@@ -57,19 +53,16 @@ impl<S: Alter> Numbered<S> for DistributionSet {
 
     ghost given = { λ now. Unit };
 
-    fn read_count(change: &mut OpenChange<'_, S>) -> Result<u32, Fault> {
-        change.read_last_set()
+    fn read_count(calls: &mut Calls<S>) -> Result<u32, Fault> {
+        read_last_set(calls)
     }
 
-    fn read_shown(
-        change: &mut OpenChange<'_, S>,
-        number: &SetNo,
-    ) -> Result<Option<DistributionSet>, Fault> {
-        let called = match change.read_set(*number)? {
+    fn read_shown(calls: &mut Calls<S>, number: &SetNo) -> Result<Option<DistributionSet>, Fault> {
+        let called = match read_set(calls, *number)? {
             Some(called) => called,
             None => return Ok(None),
         };
-        let numbers = change.read_set_modules(*number)?;
+        let numbers = read_set_modules(calls, *number)?;
         let modules = module_list(numbers)?;
         let label = labelled(called, modules);
         Ok(Some(DistributionSet {

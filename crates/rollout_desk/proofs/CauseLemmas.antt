@@ -1,11 +1,10 @@
 -- Why a request's failed store is a call that failed: what was blamed inside its change, and how the change ended.
 use Rattle.rollout_desk.proofs.Common.{◌≡◌, ◌≢◌, ◌≤◌, ◌⊎◌, Bool, false, Option, None, Ok, refl, sym, subst, ap, ◌∙◌, arith, state}
 use Rattle.rollout_desk.proofs.Common.{Ghosts, State, HasCleanDisk, Begins, Sees, Wears, Fault, rest_shows, HoldsLedger, HoldsRecords, Ledger}
-use Rattle.rollout_desk.proofs.Common.{ledger_of, OpenChange, Answer, answer, CommandList, Command, records, Reply, Refused, Refusal, Request, Do, Ask, Query}
+use Rattle.rollout_desk.proofs.Common.{ledger_of, Calls, Answer, answer, CommandList, Command, records, Reply, Refused, Refusal, Request, Do, Ask, Query}
 use Rattle.rollout_desk.proofs.Common.{Asks, reply_of, query_answer, refused_answer, accepted_step, IsValid, StandsFor, StoreFailed, Broken}
 use Rattle.rollout_desk.proofs.Common.{answer_never_stores, refusal_of_fault, desk_state_at, Store}
 use Rattle.rollout_model.specs.declared.request.Reply as model
-use Rattle.sql_calls.specs.declared.calls.Calls.{Calls}
 use Rattle.desk_commands.specs.Steps.{Steps}
 use Rattle.desk_commands.specs.declared.step.Step.TheVariants as step
 use Rattle.desk_reads.specs.AtLists.{IsOfList}
@@ -39,25 +38,25 @@ never_answered h request made accepted is failed = answer_never_stores h request
 pub told_reply : (fault : Fault) (made : Reply) → made ≡ Refused (refusal_of_fault fault) → made ≡ Refused StoreFailed → (fault ≡ Store) ⊎ (fault ≡ Broken)
 told_reply fault made named is = stored fault (let told : Refused (refusal_of_fault fault) ≡ Refused StoreFailed = sym named ∙ is in cc)
 
-module _ {S : Type 0} (g : Ghosts S) (old : Calls S) (begun read : OpenChange S) (end : Calls S)
+module _ {S : Type 0} (g : Ghosts S) (old : Calls S) (begun read : Calls S) (end : Calls S)
     (begins : Begins HoldsLedger (state g old.conn) (seen_in g begun))
-    (wears : Wears (seen_in g read) (state g end.conn)) (grew : old.failures ≤ begun.store.now.calls.failures)
-    (rose : begun.store.now.calls.failures ≤ read.store.now.calls.failures) (ended : read.store.now.calls.failures ≤ end.failures) where
+    (wears : Wears (seen_in g read) (state g end.conn)) (grew : old.failures ≤ begun.failures)
+    (rose : begun.failures ≤ read.failures) (ended : read.failures ≤ end.failures) where
   shown : (h : CommandList) → StandsFor (desk_state_at HoldsRecords false (state g old.conn)) h → Sees HoldsLedger (seen_in g begun) (ledger_of (records h))
   shown h stands = begins.sees (ledger_of (records h)) (rest_shows HoldsLedger (state g old.conn) _ (stood (state g old.conn) h stands))
 
   -- a fault inside, told by what was made of it
   pub failed_inside : {R : Type 0} {store : R} (Given : Ledger → Type 0) (fault : Fault) (made reply : R) → (made ≡ store → (fault ≡ Store) ⊎ (fault ≡ Broken))
-      → Grows (failures_of fault) begun.store.now.calls read.store.now.calls
+      → Grows (failures_of fault) begun read
       → ((l : Ledger) → Sees HoldsLedger (seen_in g begun) l → Given l → HasReason (seen_in g read) ⊥ fault)
       → ((h : CommandList) → IsValid h → IsReadable (ledger_of (records h)) → AreCounted (records h) → Given (ledger_of (records h)))
-      → (reply ≡ made) ⊎ HasFailed read.store.now.calls.failures end.failures → reply ≡ store → FailsByCalls g old end
+      → (reply ≡ made) ⊎ HasFailed read.failures end.failures → reply ≡ store → FailsByCalls g old end
   failed_inside h0 fault made reply named grows breaks given h8 is h clean counted stands = grind (arith, failed_within, shown, readable)
 
   -- what was made tells of no fault
   pub well_inside : {R : Type 0} {store : R} (made reply : R)
       → ((h : CommandList) → IsValid h → Sees HoldsLedger (seen_in g begun) (ledger_of (records h)) → HasCleanDisk (seen_in g read) → made ≢ store)
-      → (reply ≡ made) ⊎ HasFailed read.store.now.calls.failures end.failures → reply ≡ store → FailsByCalls g old end
+      → (reply ≡ made) ⊎ HasFailed read.failures end.failures → reply ≡ store → FailsByCalls g old end
   well_inside made reply never h3 is h clean counted stands = grind (arith, failed_within, shown)
 
 -- ---- replies that the machine gives

@@ -46,7 +46,7 @@ pub use Rattle.desk_records.specs.Artifacts.{piece_numbered, pieces_in, pieces_o
 pub use Rattle.desk_records.specs.Holds.{HoldsLedger, HoldsRecords, Ledger, ledger_of}
 pub use Rattle.desk_records.specs.Readable.{HoldsReadable}
 pub use Rattle.desk_records.specs.Tables.{HoldsTables, Tables}
-pub use Rattle.desk_store.specs.declared.change.OpenChange.{OpenChange}
+pub use Rattle.sql_calls.specs.declared.calls.Calls.{Calls}
 pub use Rattle.desk_opening.specs.Reopening.{BeginsPlain, Reopens}
 pub use Rattle.rollout_desk.specs.private.Changes.{EndsByCommit, EndsByRollback, Handles, refusal_of_fault}
 pub use Rattle.rollout_desk.specs.DeskStates.{desk_state}

@@ -5,9 +5,8 @@ use Rattle.rollout_desk.proofs.Common.{Doubts, HoldIn, Opens, Rests, Spoiled, We
 use Rattle.rollout_desk.proofs.Common.{HoldsRecords, Ledger, ledger_of, CommandList, Records, records, Refused, Becomes, DeskState, IsInDoubt, StandsFor}
 use Rattle.rollout_desk.proofs.Common.{is_store, Refusal, NoMemory, StoreFailed, Looks, EndsLook, refusal_of_fault}
 use Rattle.rollout_desk.proofs.Common.{refl, Answer, AppliesAt, Asks, Ask, Query, query_answer}
-use Rattle.rollout_desk.proofs.Common.{◌≤◌, Ghosts, IsValid, OpenChange, Sees, HoldsTables, state}
+use Rattle.rollout_desk.proofs.Common.{◌≤◌, Ghosts, IsValid, Calls, Sees, HoldsTables, state}
 use Rattle.sql_calls.specs.Calls.{Grows, failures_of}
-use Rattle.sql_calls.specs.declared.calls.Calls.{Calls}
 use Rattle.desk_reads.specs.Counted.{AreCounted}
 use Rattle.desk_store.specs.Blaming.{HasFailed}
 use Rattle.desk_store.specs.Breaking.{BreaksOnly}
@@ -22,15 +21,15 @@ use Rattle.rollout_desk.proofs.VerifyLemmas.{failed_within}
 
 -- ---- what was found in a change
 
-module _ {S : Type 0} (g : Ghosts S) {A : Type 0} (Finds : OpenChange S → OpenChange S → Result A Fault → Type 0) where
-  module _ (old : Calls S) (begun read : OpenChange S) (end : Calls S) (begins : Begins HoldsLedger (state g old.conn) (seen_in g begun))
+module _ {S : Type 0} (g : Ghosts S) {A : Type 0} (Finds : Calls S → Calls S → Result A Fault → Type 0) where
+  module _ (old : Calls S) (begun read : Calls S) (end : Calls S) (begins : Begins HoldsLedger (state g old.conn) (seen_in g begun))
       (tables : Begins HoldsTables (state g old.conn) (seen_in g begun)) (worn : Wears (seen_in g begun) (seen_in g read))
-      (grew : old.failures ≤ begun.store.now.calls.failures) where
+      (grew : old.failures ≤ begun.failures) where
     abbrev Comes : Result A Refusal → Type 0
     Comes result = LookedTo g Finds old end result
 
     abbrev HasMore : Type 0
-    HasMore = HasFailed read.store.now.calls.failures end.failures
+    HasMore = HasFailed read.failures end.failures
 
     -- what stood stands, or a crash leaves it
     abbrev Rested : Type 0
@@ -47,20 +46,20 @@ module _ {S : Type 0} (g : Ghosts S) {A : Type 0} (Finds : OpenChange S → Open
 
     pub found_well : (a : A) (result : Result A Refusal)
         → ((kept : Ledger) → Opens HoldsLedger (seen_in g begun) kept → Opens HoldsLedger (seen_in g read) kept)
-        → Finds begun read (Ok a) → begun.store.now.calls.failures ≤ read.store.now.calls.failures
+        → Finds begun read (Ok a) → begun.failures ≤ read.failures
         → EndsLook (seen_in g read) (state g end.conn) (Ok a) result → (result ≡ Ok a) ⊎ HasMore → Comes result
     found_well a result goes finds rose ends fails = grind (arith, found_in, failed_within)
 
     pub found_in_vain : (fault : Fault) (refusal : Refusal) (result : Result A Refusal) → refusal ≡ refusal_of_fault fault
         → ((kept : Ledger) → Opens HoldsLedger (seen_in g begun) kept → Spoiled HoldsLedger (seen_in g read) kept) → Finds begun read (Err fault)
-        → Grows (failures_of fault) begun.store.now.calls read.store.now.calls → read.store.now.calls.failures ≤ end.failures
+        → Grows (failures_of fault) begun read → read.failures ≤ end.failures
         → EndsLook (seen_in g read) (state g end.conn) (Err refusal) result → (result ≡ Err refusal) ⊎ HasMore → Comes result
     found_in_vain fault refusal result named leaves finds grows ended ends fails = grind (arith, failed_within, found_in, rested)
 
   -- ---- what a look says
 
   module _ {old new : Calls S} where
-    pub looks_at : (Answer : Records → A → Type 0) → ((b c : OpenChange S) (x : A) → Finds b c (Ok x) → (r : Records)
+    pub looks_at : (Answer : Records → A → Type 0) → ((b c : Calls S) (x : A) → Finds b c (Ok x) → (r : Records)
         → Sees HoldsLedger (seen_in g b) (ledger_of r) → HasCleanDisk (seen_in g c) → Answer r x) → (result : Result A Refusal)
         → Looked g Finds old new result → Looks HoldsRecords (state g old.conn) (state g new.conn) result Answer
     looks_at Answer reads (Ok x) it = record {
@@ -81,7 +80,7 @@ module _ {S : Type 0} (g : Ghosts S) {A : Type 0} (Finds : OpenChange S → Open
     }
 
     -- a failed store is a call that failed, where no rows of a list are broken
-    pub fails_at : (Given : Ledger → Type 0) → ((b c : OpenChange S) → Finds b c (Err Broken) → BreaksOnly g HoldsLedger Given nothing {A = A} b c (Err Broken))
+    pub fails_at : (Given : Ledger → Type 0) → ((b c : Calls S) → Finds b c (Err Broken) → BreaksOnly g HoldsLedger Given nothing {A = A} b c (Err Broken))
         → ((h : CommandList) → IsValid h → AreCounted (records h) → Given (ledger_of (records h))) → (result : Result A Refusal)
         → Looked g Finds old new result → result ≡ Err StoreFailed → FailsByCalls g old new
     fails_at h0 breaks given result it is h clean counted stands = grind (arith, rest_shows, stood)

@@ -1,23 +1,22 @@
 -- From what a call inside a change says of the tables to what a query is answered.
 use Rattle.rollout_desk.proofs.Common.{◌≡◌, ℕ, Result, Ok, IfOk, arith, Ghosts, Fault, Refused, Query, Download, reply_of, Refusal, Tables}
-use Rattle.rollout_desk.proofs.Common.{OpenChange, AnswersIn, KeepsOffer, KeepsOffers, KeepsSizes, state}
+use Rattle.rollout_desk.proofs.Common.{Calls, AnswersIn, KeepsOffer, KeepsOffers, KeepsSizes, state}
 use Rattle.rollout_machine.specs.Commands.{Bytes, Credential}
 use Rattle.rollout_model.specs.declared.artifact.Artifact.{Artifact}
 use Rattle.rollout_machine.specs.Replies as shown
 use Rattle.rollout_model.specs.declared.request.Reply.{Reply}
 use Rattle.desk_views.specs.Showing.{ShowsIn}
 use Rattle.desk_views.specs.Sizes.{AgreesIn, KeepsSize}
-use Rattle.sql_calls.specs.declared.calls.Calls.{Calls}
 use Rattle.rollout_desk.specs.Looks.{Looked, ReadsDownload}
 use Rattle.rollout_desk.specs.Sizes.{ReadsAnswer}
 
 -- what is so of any tables
-pub always : {S : Type 0} {g : Ghosts S} {old new : OpenChange S} {out : Result Reply Fault} {Is : Tables → Reply → Type 0}
+pub always : {S : Type 0} {g : Ghosts S} {old new : Calls S} {out : Result Reply Fault} {Is : Tables → Reply → Type 0}
     → ((t : Tables) (reply : Reply) → Is t reply) → AgreesIn g old new out Is
 always is = record { agrees = grind (arith, is) }
 
 -- a query that asks for no contents and no offer
-pub other_answered : {S : Type 0} {g : Ghosts S} {old new : OpenChange S} {query : Query} {out : Result Reply Fault} → ShowsIn g old new query out
+pub other_answered : {S : Type 0} {g : Ghosts S} {old new : Calls S} {query : Query} {out : Result Reply Fault} → ShowsIn g old new query out
     → ((t : Tables) (reply : shown.Reply) → KeepsSize t query reply × KeepsOffer t query reply)
     → AnswersIn g old new query out
 other_answered shows none = grind (arith, always)

@@ -28,7 +28,6 @@ use Rattle.desk_store.specs.Changing.{FindsIn, seen_in}
 use Rattle.desk_store.specs.Failing.{FailsIn}
 use Rattle.desk_store.specs.KeptOffers.{IsKeptAs}
 use Rattle.desk_reads.specs.AtLists.{FailsAtListsIn}
-use Rattle.desk_store.specs.declared.change.OpenChange.{OpenChange}
 use Rattle.desk_records.specs.Artifacts.{piece_numbered}
 use Rattle.desk_records.specs.Targets.{ids_of}
 use Rattle.desk_views.specs.Downloads.{downloadable}
@@ -44,12 +43,12 @@ abbrev pub bytes_of : Option (Vec ℕ Global) → Option Bytes
 bytes_of found = option_map vec_items found
 
 -- the piece of this place of an artifact's contents was read, or why not
-pub record ReadsPiece {S : Type 0} (g : Ghosts S) (number place : ℕ) (old new : OpenChange S) (result : Result (Option (Vec ℕ Global)) Fault) : Type 0 where
+pub record ReadsPiece {S : Type 0} (g : Ghosts S) (number place : ℕ) (old new : Calls S) (result : Result (Option (Vec ℕ Global)) Fault) : Type 0 where
   pub reads : FindsIn g old new result (λ r found. bytes_of found ≡ piece_numbered r.artifacts number place)
   pub fails : FailsIn g old new result
 
 -- the targets on a page of all were read, where these are the ids of all, or why not
-pub record ReadsTargets {S : Type 0} (g : Ghosts S) (ids : List Bytes) (page : Page) (old new : OpenChange S) (result : Result (Vec ShownTarget Global) Fault) :
+pub record ReadsTargets {S : Type 0} (g : Ghosts S) (ids : List Bytes) (page : Page) (old new : Calls S) (result : Result (Vec ShownTarget Global) Fault) :
     Type 0 where
   pub reads : FindsIn g old new result (λ r content. ids ≡ ids_of r.targets → IsContentOf page r content.items)
   pub fails : FailsAtListsIn g old new result
@@ -59,13 +58,13 @@ abbrev pub HasPage : Page → Records → List ShownTarget → List Bytes → Ty
 HasPage page r content ids = (ids ≡ ids_of r.targets) × IsContentOf page r content
 
 -- the targets on a page of all were read, and the ids of all, or why not
-pub record ReadsWithIds {S : Type 0} (g : Ghosts S) (page : Page) (old new : OpenChange S) (result : Result (Vec ShownTarget Global × Vec Bytes Global) Fault) :
+pub record ReadsWithIds {S : Type 0} (g : Ghosts S) (page : Page) (old new : Calls S) (result : Result (Vec ShownTarget Global × Vec Bytes Global) Fault) :
     Type 0 where
   pub reads : FindsIn g old new result (λ r found. HasPage page r found.0.items found.1.items)
   pub fails : FailsAtListsIn g old new result
 
 -- the artifact that a device may download was read, or its refusal, or why not
-pub record ReadsDownload {S : Type 0} (g : Ghosts S) (device : Credential) (m : ℕ) (filename : Bytes) (old new : OpenChange S)
+pub record ReadsDownload {S : Type 0} (g : Ghosts S) (device : Credential) (m : ℕ) (filename : Bytes) (old new : Calls S)
     (result : Result (Result Artifact Refusal) Fault) : Type 0 where
   pub reads : FindsIn g old new result (λ r found. found ≡ downloadable r device m filename)
   pub fails : FailsAtListsIn g old new result
@@ -83,11 +82,11 @@ pub record EndsLook {A : Type 0} (old new : State) (found result : Result A Refu
   pub ends : ((result ≡ found) × ((kept : Ledger) → Spoiled HoldsLedger old kept → Rests HoldsLedger new kept))
       ⊎ ((result ≡ Err StoreFailed) × ((kept : Ledger) → Spoiled HoldsLedger old kept → Doubts HoldsLedger new kept kept))
 
-module _ {S : Type 0} (g : Ghosts S) {A : Type 0} (Finds : OpenChange S → OpenChange S → Result A Fault → Type 0) where
+module _ {S : Type 0} (g : Ghosts S) {A : Type 0} (Finds : Calls S → Calls S → Result A Fault → Type 0) where
   -- a change was begun, this was found in it, and it was given up
   pub record FoundIn (old new : Calls S) (found : Result A Fault) : Type 0 where
-    pub begun : OpenChange S
-    pub read : OpenChange S
+    pub begun : Calls S
+    pub read : Calls S
     pub begins : Begins HoldsLedger (state g old.conn) (seen_in g begun)
     pub tables : Begins HoldsTables (state g old.conn) (seen_in g begun)
     pub finds : Finds begun read found

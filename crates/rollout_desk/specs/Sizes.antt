@@ -12,7 +12,7 @@ use Rattle.rollout_machine.specs.Views.{reply_of}
 use Rattle.rollout_model.specs.declared.request.Reply.{Reply}
 use Rattle.desk_records.specs.Tables.{HoldsTables, Tables}
 use Rattle.request_handler.specs.declared.download.Download as begun
-use Rattle.desk_store.specs.declared.change.OpenChange.{OpenChange}
+use Rattle.sql_calls.specs.declared.calls.Calls.{Calls}
 use Rattle.desk_reads.specs.AtLists.{FailsAtListsIn}
 use Rattle.desk_views.specs.Kept.{TellsKept}
 use Rattle.desk_views.specs.Showing.{ShowsIn}
@@ -29,13 +29,13 @@ KeepsOffer t _ reply = Unit {0}
 
 module _ {S : Type 0} (g : Ghosts S) where
   -- what a query is answered inside a change: at lists of accepted commands, and in whatever tables
-  pub record AnswersIn (old new : OpenChange S) (query : Query) (result : Result Reply Fault) : Type 0 where
+  pub record AnswersIn (old new : Calls S) (query : Query) (result : Result Reply Fault) : Type 0 where
     pub shows : ShowsIn g old new query result
     pub sized : AgreesIn g old new result (λ t reply. KeepsSize t query (reply_of reply))
     pub kept : AgreesIn g old new result (λ t reply. KeepsOffer t query (reply_of reply))
 
 -- a query was answered, or why not
-pub record ReadsAnswer {S : Type 0} (g : Ghosts S) (query : Query) (old new : OpenChange S) (result : Result Reply Fault) : Type 0 where
+pub record ReadsAnswer {S : Type 0} (g : Ghosts S) (query : Query) (old new : Calls S) (result : Result Reply Fault) : Type 0 where
   pub answers : AnswersIn g old new query result
   pub fails : FailsAtListsIn g old new result
 

@@ -18,7 +18,6 @@ use Rattle.desk_records.specs.Holds.{HoldsRecords}
 use Rattle.desk_records.specs.Tables.{HoldsTables, Tables}
 use Rattle.desk_store.specs.Blaming.{HasFailed}
 use Rattle.desk_store.specs.Changing.{FindsTables, seen_in}
-use Rattle.desk_store.specs.declared.change.OpenChange.{OpenChange}
 use Rattle.desk_verify.specs.Agreement.{IsDamage}
 use Rattle.desk_verify.specs.Promises.{NamesNone}
 use Rattle.desk_verify.specs.Stopping.{IsStuck, StopsInOrder}
@@ -38,7 +37,7 @@ abbrev pub FindsDamage : State → State → Result (Option CheckedTable) Refusa
 FindsDamage old new result = IfOk result (λ found. (t : Tables) → HasCleanDisk new → Shows HoldsTables old t → IsDamage t found)
 
 -- what a verification reads: the first table that doesn't agree, none of those of accepted commands, or why it stopped
-pub record ReadsDamage {S : Type 0} (g : Ghosts S) (old new : OpenChange S) (result : Result (Option CheckedTable) Fault) : Type 0 where
+pub record ReadsDamage {S : Type 0} (g : Ghosts S) (old new : Calls S) (result : Result (Option CheckedTable) Fault) : Type 0 where
   pub judges : FindsTables g old new result IsDamage
   pub never : NamesNone (seen_in g old) (seen_in g new) result
   pub stops : StopsInOrder g old new result

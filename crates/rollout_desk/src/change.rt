@@ -14,7 +14,7 @@ ghost use Rattle.desk_store.specs.Changing.{StaysIn};
 use crate::look::{Question, look};
 use crate::refusals::reply_of_fault;
 use desk_commands::{Step, take_step};
-use desk_store::{DeskStore, Fault, OpenChange};
+use desk_store::{Calls, DeskStore, Fault, OpenChange};
 use desk_views::{
     show_action, show_actions_table, show_artifact, show_artifacts, show_cancel, show_contents,
     show_deployment, show_download, show_group, show_group_targets, show_groups, show_history,
@@ -26,47 +26,43 @@ use sqlite::Alter;
 use std::alloc::Global;
 
 /// Answers a query inside a change.
-fn answer<S: Alter>(
-    alloc: Global,
-    change: &mut OpenChange<'_, S>,
-    query: &Query,
-) -> Result<Reply, Fault>
-    ensures stays { StaysIn S.Store change.old change.new result }
-    ensures answers { AnswersIn S.Store change.old change.new (query_of query.now) result }
-    ensures fails { FailsAtListsIn S.Store change.old change.new result }
+fn answer<S: Alter>(alloc: Global, calls: &mut Calls<S>, query: &Query) -> Result<Reply, Fault>
+    ensures stays { StaysIn S.Store calls.old calls.new result }
+    ensures answers { AnswersIn S.Store calls.old calls.new (query_of query.now) result }
+    ensures fails { FailsAtListsIn S.Store calls.old calls.new result }
 {
     match query {
-        Query::Modules(page) => show_modules(alloc, change, *page),
-        Query::Module(number) => show_module(change, *number),
+        Query::Modules(page) => show_modules(alloc, calls, *page),
+        Query::Module(number) => show_module(calls, *number),
         Query::Artifacts(module_number, page) => {
-            show_artifacts(alloc, change, *module_number, *page)
+            show_artifacts(alloc, calls, *module_number, *page)
         }
-        Query::Artifact(module_number, number) => show_artifact(change, *module_number, *number),
+        Query::Artifact(module_number, number) => show_artifact(calls, *module_number, *number),
         Query::Contents(module_number, number) => {
-            show_contents(alloc, change, *module_number, *number)
+            show_contents(alloc, calls, *module_number, *number)
         }
-        Query::Sets(page) => show_sets(alloc, change, *page),
-        Query::Set(number) => show_set(change, *number),
-        Query::Targets(filter, page) => show_targets(alloc, change, filter, *page),
-        Query::Target(id) => show_target(change, *id),
-        Query::Poll(device) => show_poll(change, device),
-        Query::Deployment(device, action) => show_deployment(alloc, change, device, *action),
-        Query::CancelOf(device, action) => show_cancel(change, device, *action),
+        Query::Sets(page) => show_sets(alloc, calls, *page),
+        Query::Set(number) => show_set(calls, *number),
+        Query::Targets(filter, page) => show_targets(alloc, calls, filter, *page),
+        Query::Target(id) => show_target(calls, *id),
+        Query::Poll(device) => show_poll(calls, device),
+        Query::Deployment(device, action) => show_deployment(alloc, calls, device, *action),
+        Query::CancelOf(device, action) => show_cancel(calls, device, *action),
         Query::Download(device, module_number, filename) => {
-            show_download(alloc, change, device, *module_number, filename)
+            show_download(alloc, calls, device, *module_number, filename)
         }
-        Query::Actions(id, page) => show_target_actions(alloc, change, *id, *page),
-        Query::Action(id, number) => show_action(change, *id, *number),
-        Query::History(id, number, page) => show_history(alloc, change, *id, *number, *page),
-        Query::Rollouts(page) => show_rollouts(alloc, change, *page),
-        Query::Rollout(number) => show_rollout(change, *number),
-        Query::Groups(number, page) => show_groups(alloc, change, *number, *page),
-        Query::Group(number, group) => show_group(change, *number, *group),
+        Query::Actions(id, page) => show_target_actions(alloc, calls, *id, *page),
+        Query::Action(id, number) => show_action(calls, *id, *number),
+        Query::History(id, number, page) => show_history(alloc, calls, *id, *number, *page),
+        Query::Rollouts(page) => show_rollouts(alloc, calls, *page),
+        Query::Rollout(number) => show_rollout(calls, *number),
+        Query::Groups(number, page) => show_groups(alloc, calls, *number, *page),
+        Query::Group(number, group) => show_group(calls, *number, *group),
         Query::GroupTargets(number, group, page) => {
-            show_group_targets(alloc, change, *number, *group, *page)
+            show_group_targets(alloc, calls, *number, *group, *page)
         }
-        Query::Report(number) => show_report(alloc, change, *number),
-        Query::ActionsTable(number) => show_actions_table(alloc, change, *number),
+        Query::Report(number) => show_report(alloc, calls, *number),
+        Query::ActionsTable(number) => show_actions_table(alloc, calls, *number),
     }
 }
 
@@ -103,7 +99,7 @@ pub(crate) fn run_command<S: Alter>(
         Ok(change) => change,
         Err(fault) => return reply_of_fault(fault),
     };
-    match take_step(alloc, &mut change, command) {
+    match take_step(alloc, change.calls(), command) {
         Ok(Step::Accepted(reply)) => commit(change, reply),
         Ok(Step::Refused(refusal)) => give_up(change, Reply::Refused(refusal)),
         Err(fault) => give_up(change, reply_of_fault(fault)),
@@ -120,8 +116,8 @@ struct Asked<'a> {
 impl<'a, S: Alter> Question<S, Reply> for Asked<'a> {
     ghost finds = { λ it. ReadsAnswer S.Store (query_of it.query.now) };
 
-    fn read(&self, change: &mut OpenChange<'_, S>) -> Result<Reply, Fault> {
-        answer(self.alloc, change, self.query)
+    fn read(&self, calls: &mut Calls<S>) -> Result<Reply, Fault> {
+        answer(self.alloc, calls, self.query)
     }
 }
 

@@ -9,7 +9,7 @@ ghost use Rattle.rollout_desk.specs.Causes.{FailsByCalls};
 ghost use Rattle.rollout_desk.specs.private.Changes.{EndsChange};
 ghost use Rattle.desk_store.specs.Changing.{StaysIn, seen_in};
 ghost use Rattle.sql_calls.specs.Standing.{Wears};
-ghost use Rattle.desk_store.specs.declared.change.OpenChange.{OpenChange};
+ghost use Rattle.sql_calls.specs.declared.calls.Calls.{Calls};
 ghost use Rattle.sql_calls.specs.declared.fault.Fault.{Fault};
 ghost use Rattle.desk_records.specs.Targets.{ids_of};
 ghost use Rattle.desk_views.specs.Targets.{IsContentOf};
@@ -18,7 +18,7 @@ ghost use Rattle.rollout_desk.specs.Looks.{ReadsTargets, ReadsWithIds, bytes_of}
 ghost use Rattle.rollout_desk.specs.Working.{TellsFailures, tells_store};
 
 use crate::refusals::refusal_of;
-use desk_store::{DeskStore, Fault, OpenChange};
+use desk_store::{Calls, DeskStore, Fault, OpenChange};
 use desk_views::{find_download, read_known_page, read_target_ids};
 use rollout_model::{
     Artifact, ArtifactNo, ControllerId, Credential, Filename, ModuleNo, Page, Refusal, ShownTarget,
@@ -41,13 +41,13 @@ pub(crate) fn give_up<S: Alter, T: Drop>(
 
 /// What is read in a change.
 pub(crate) trait Question<S: Alter, T: Drop> {
-    // what is known of what was read, by the change before it and after it
-    ghost finds: { Self → OpenChange S → OpenChange S → Result T Fault → Type 0 };
+    // what is known of what was read, by the calls before it and after it
+    ghost finds: { Self → Calls S → Calls S → Result T Fault → Type 0 };
 
-    fn read(&self, change: &mut OpenChange<'_, S>) -> Result<T, Fault>
-        ensures stays { StaysIn S.Store change.old change.new result }
-        ensures wears { Wears (seen_in S.Store change.old) (seen_in S.Store change.new) }
-        ensures finds { finds self.now change.old change.new result };
+    fn read(&self, calls: &mut Calls<S>) -> Result<T, Fault>
+        ensures stays { StaysIn S.Store calls.old calls.new result }
+        ensures wears { Wears (seen_in S.Store calls.old) (seen_in S.Store calls.new) }
+        ensures finds { finds self.now calls.old calls.new result };
 }
 
 /// Looks at what is read, inside a transaction that changes nothing.
@@ -61,7 +61,7 @@ pub(crate) fn look<Q: Question<S, T>, S: Alter, T: Drop>(
         Ok(change) => change,
         Err(fault) => return Err(refusal_of(fault)),
     };
-    match it.read(&mut change) {
+    match it.read(change.calls()) {
         Ok(found) => give_up(change, Ok(found)),
         Err(fault) => give_up(change, Err(refusal_of(fault))),
     }
@@ -77,8 +77,8 @@ pub(crate) struct PieceOf {
 impl<S: Alter> Question<S, Option<Vec<u8>>> for PieceOf {
     ghost finds = { λ it. ReadsPiece S.Store it.number it.place };
 
-    fn read(&self, change: &mut OpenChange<'_, S>) -> Result<Option<Vec<u8>>, Fault> {
-        change.read_piece(self.number, self.place)
+    fn read(&self, calls: &mut Calls<S>) -> Result<Option<Vec<u8>>, Fault> {
+        desk_store::read_piece(calls, self.number, self.place)
     }
 }
 
@@ -107,8 +107,8 @@ struct KnownPage<'a> {
 impl<'a, S: Alter> Question<S, Vec<ShownTarget>> for KnownPage<'a> {
     ghost finds = { λ it. ReadsTargets S.Store it.ids.now it.page };
 
-    fn read(&self, change: &mut OpenChange<'_, S>) -> Result<Vec<ShownTarget>, Fault> {
-        read_known_page(self.alloc, change, self.ids, self.page)
+    fn read(&self, calls: &mut Calls<S>) -> Result<Vec<ShownTarget>, Fault> {
+        read_known_page(self.alloc, calls, self.ids, self.page)
     }
 }
 
@@ -137,12 +137,9 @@ struct PageWithIds {
 impl<S: Alter> Question<S, (Vec<ShownTarget>, Vec<ControllerId>)> for PageWithIds {
     ghost finds = { λ it. ReadsWithIds S.Store it.page };
 
-    fn read(
-        &self,
-        change: &mut OpenChange<'_, S>,
-    ) -> Result<(Vec<ShownTarget>, Vec<ControllerId>), Fault> {
-        let ids = read_target_ids(change)?;
-        let content = read_known_page(self.alloc, change, &ids, self.page)?;
+    fn read(&self, calls: &mut Calls<S>) -> Result<(Vec<ShownTarget>, Vec<ControllerId>), Fault> {
+        let ids = read_target_ids(calls)?;
+        let content = read_known_page(self.alloc, calls, &ids, self.page)?;
         Ok((content, ids))
     }
 }
@@ -173,10 +170,10 @@ struct OfferedFile<'a> {
 impl<'a, S: Alter> Question<S, Result<Artifact, Refusal>> for OfferedFile<'a> {
     ghost finds = { λ it. ReadsDownload S.Store it.device.now it.module_number it.filename.now };
 
-    fn read(&self, change: &mut OpenChange<'_, S>) -> Result<Result<Artifact, Refusal>, Fault> {
+    fn read(&self, calls: &mut Calls<S>) -> Result<Result<Artifact, Refusal>, Fault> {
         find_download(
             self.alloc,
-            change,
+            calls,
             self.device,
             self.module_number,
             self.filename,

@@ -7,7 +7,7 @@ ghost use Rattle.rollout_desk.specs.Verifying.{Judges, KeepsDesk, LooksForDamage
 
 use crate::desk::Desk;
 use crate::look::{Question, look};
-use desk_store::{DeskStore, Fault, OpenChange};
+use desk_store::{Calls, DeskStore, Fault};
 use desk_verify::{CheckedTable, Damage, find_damage};
 use rollout_machine::is_failed_store;
 use rollout_model::Refusal;
@@ -20,8 +20,8 @@ struct FirstDamage;
 impl<S: Alter> Question<S, Option<CheckedTable>> for FirstDamage {
     ghost finds = { λ it. ReadsDamage S.Store };
 
-    fn read(&self, change: &mut OpenChange<'_, S>) -> Result<Option<CheckedTable>, Fault> {
-        find_damage(change)
+    fn read(&self, calls: &mut Calls<S>) -> Result<Option<CheckedTable>, Fault> {
+        find_damage(calls)
     }
 }
 

@@ -10,6 +10,7 @@ use crate::fault::{Fault, fault_of};
 use sqlite::types::ValueRef;
 use sqlite::{Alter, Connection, Error, Row};
 use sqlite_schema::schema::Schema;
+use std::alloc::Global;
 
 const BEGIN: &str = "BEGIN";
 
@@ -44,11 +45,12 @@ pub struct Calls<S: Alter> {
     conn: Connection<S>,
     work: Work,
     failures: u64,
+    alloc: Global,
 }
 
 impl<S: Alter> Calls<S> {
     /// Takes over a connection, with nothing counted.
-    pub fn new(conn: Connection<S>) -> Calls<S>
+    pub fn new(alloc: Global, conn: Connection<S>) -> Calls<S>
         ensures conn { result.conn ≡ conn }
         ensures work { result.work ≡ no_work }
         ensures failures { result.failures ≡ 0 }
@@ -60,7 +62,13 @@ impl<S: Alter> Calls<S> {
                 rows: 0,
             },
             failures: 0,
+            alloc,
         }
+    }
+
+    /// What memory is taken from.
+    pub fn alloc(&self) -> Global {
+        self.alloc
     }
 
     /// Hands the connection back.

@@ -11,7 +11,7 @@ const INSERT: &str = "INSERT INTO note (title) VALUES ('Pump')";
 const SELECT: &str = "SELECT title FROM note";
 
 fn new_calls(alloc: Global) -> Option<Calls<MemStore>> {
-    Some(Calls::new(Connection::open_in_memory(alloc).ok()?))
+    Some(Calls::new(alloc, Connection::open_in_memory(alloc).ok()?))
 }
 
 fn runs<S: Alter>(calls: &mut Calls<S>, sql: &str) -> bool {

@@ -1,14 +1,12 @@
 -- A change that fills the tables of the newest version.
-use Rattle.std.specs.Prelude.{◌≡◌, ℕ, List, [], map, Some, Result}
-use Rattle.sqlite.specs.State.{State}
-use Rattle.sql_calls.specs.Standing.{Makes}
+use Rattle.std.specs.Prelude.{◌≡◌, ℕ, List, [], map, Some}
 use Rattle.rollout_model.specs.declared.group_rule.GroupRule.{GroupRule}
 use Rattle.rollout_machine.specs.ByteStrings.{item_numbered}
 use Rattle.rollout_machine.specs.GroupRules.{even_rules}
 use Rattle.rollout_machine.specs.Ranges.{each_from}
 use Rattle.rollout_machine.specs.Records.{Records}
 use Rattle.rollout_machine.specs.declared.records.RolloutRecord.{RolloutRecord}
-use Rattle.desk_records.specs.Holds.{HoldsLedger, Ledger, ledger_of}
+use Rattle.desk_records.specs.Holds.{Ledger, ledger_of}
 use Rattle.desk_records.specs.LedgerSteps.{set_numbered, with_rules}
 use Rattle.desk_records.specs.Schema.{Rollouts}
 use Rattle.desk_records.specs.Versions.{IsTellable}
@@ -16,10 +14,6 @@ use Rattle.desk_records.specs.declared.version.Version.{Version}
 use Rattle.desk_records.specs.declared.version.Version.TheVariants.{One, Two, Three}
 use Rattle.desk_store.specs.Readable.{KeepsColumns}
 use Rattle.desk_opening.specs.Counting.{AreReadable}
-
--- the next ledger is made
-abbrev pub MakesLedger : {A E : Type 0} → State → State → Result A E → (Ledger → Ledger → Type 0) → Type 0
-MakesLedger old new result Change = Makes HoldsLedger (λ (l : Ledger). l) old new result Change
 
 -- ---- what is made
 

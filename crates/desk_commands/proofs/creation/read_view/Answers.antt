@@ -1,5 +1,13 @@
 use Rattle.desk_commands.proofs.Answering.{◌∙◌, ap, length, both_found, finds_as, ledger_found, missing}
+use Rattle.desk_commands.proofs.FailureLemmas.{stays_then}
+use Rattle.std.proofs.Common.{arith}
 use Rattle.desk_commands.proofs.creation.read_view.Goals as goal
+
+pub returns-in_err-approval-clause-stays : goal.returns-in_err-approval-clause-stays
+returns-in_err-approval-clause-stays g c =
+    let it = stays_then c.in_ok-last_set.ensures.stays _ (stays_then c.in_ok-same_name.ensures.stays _
+    (stays_then c.in_ok-count.ensures.stays _ c.in_err-approval.ensures.stays)) in
+    grind arith
 
 pub returns-clause-reads : goal.returns-clause-reads
 returns-clause-reads g c =

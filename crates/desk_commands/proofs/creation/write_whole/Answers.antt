@@ -17,7 +17,7 @@ loop-i-preserved g c =
           (makes_then c.loop-i.invariant.writes
           (one_group c.args.created.now c.args.plan.now size _ c.requires.cut c.loop-i.i _
           (omega (arith, c.get-groups.ensures.value, c.count.ensures.value))) _ c.in_ok-write_group.ensures.writes)
-          (one_rule c.args.created.now c.args.plan.now size c.loop-i.i) _ (rw c.group_rule.ensures at c.in_ok-write_rule.ensures.writes);
+          (one_rule c.args.created.now c.args.plan.now size c.loop-i.i) _ (rw (c.group_rule.ensures, c.get.ensures.value) at c.in_ok-write_rule.ensures.writes);
       work = search rules;
     }
 

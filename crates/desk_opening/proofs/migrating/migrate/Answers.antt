@@ -23,12 +23,12 @@ returns-in_err-run-clause-migrates g c = migrates_by _ (λ r. breaks (made c.arg
 
 pub returns-in_err-fill_later-clause-migrates : goal.returns-in_err-fill_later-clause-migrates
 returns-in_err-fill_later-clause-migrates g c = migrates_by _ (λ r. breaks (standing c.args.version r c.in_ok-begin.ensures.runs
-    (rw c.tables_after.ensures at c.in_ok-make_tables.ensures.makes) c.in_ok-run.ensures.runs) c.in_err-fill_later.ensures.stays.advances _
+    (rw c.tables_after.ensures at c.in_ok-make_tables.ensures.makes) c.in_ok-run.ensures.runs) c.in_err-fill_later.ensures.standing _
     c.from_residual-in_err-fill_later.ensures.0)
 
 pub returns-in_err-commit-clause-migrates : goal.returns-in_err-commit-clause-migrates
 returns-in_err-commit-clause-migrates g c = migrates_by _ (λ r. not_ended (filled c.args.version r c.in_ok-begin.ensures.runs
-    (rw c.tables_after.ensures at c.in_ok-make_tables.ensures.makes) c.in_ok-run.ensures.runs c.in_ok-fill_later.ensures.stays.advances
+    (rw c.tables_after.ensures at c.in_ok-make_tables.ensures.makes) c.in_ok-run.ensures.runs c.in_ok-fill_later.ensures.standing
     c.in_ok-fill_later.ensures.writes) c.in_err-commit.ensures.runs _ c.from_residual-in_err-commit.ensures.0)
 
 pub returns-in_err-fill_later-clause-fails : goal.returns-in_err-fill_later-clause-fails
@@ -46,7 +46,7 @@ returns-in_err-commit-clause-fails g c =
 
 pub returns-clause-migrates : goal.returns-clause-migrates
 returns-clause-migrates g c = migrates_by (Ok tt) (λ r. ended (filled c.args.version r c.in_ok-begin.ensures.runs
-    (rw c.tables_after.ensures at c.in_ok-make_tables.ensures.makes) c.in_ok-run.ensures.runs c.in_ok-fill_later.ensures.stays.advances
+    (rw c.tables_after.ensures at c.in_ok-make_tables.ensures.makes) c.in_ok-run.ensures.runs c.in_ok-fill_later.ensures.standing
     c.in_ok-fill_later.ensures.writes) c.in_ok-commit.ensures.runs (g.met.S.Store.settled c.commit.new.self.conn.store) tt)
 
 pub returns-clause-opened : goal.returns-clause-opened

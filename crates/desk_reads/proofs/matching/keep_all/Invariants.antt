@@ -11,12 +11,12 @@ use Rattle.desk_reads.proofs.matching.keep_all.Given as goal
 -- the ids are there of those that match of the parts so far, and the others are left
 abbrev pub invariant-loop : goal.invariant-loop
 invariant-loop g l = record {
-  stays : StaysIn g.S.Store l.fn.change l.change (Ok (tt {0}));
-  fails : FailsAtListsIn g.S.Store l.fn.change l.change (Ok (tt {0}));
+  stays : StaysIn g.S.Store l.fn.calls l.calls (Ok (tt {0}));
+  fails : FailsAtListsIn g.S.Store l.fn.calls l.calls (Ok (tt {0}));
   left : l.left.items ≡ drop (l.counter * 100) l.fn.listed.items;
-  work : l.change.store.now.calls.work.statements ≤ l.fn.change.store.now.calls.work.statements
+  work : l.calls.work.statements ≤ l.fn.calls.work.statements
       + (tags_reads (filter_of l.filter) + attributes_reads (filter_of l.filter)) * l.counter;
-  reads : FindsIn g.S.Store {A = Unit {0}} {E = Fault} l.fn.change l.change (Ok tt)
+  reads : FindsIn g.S.Store {A = Unit {0}} {E = Fault} l.fn.calls l.calls (Ok tt)
       (λ r _. in_byte_order (listed_ids l.fn.listed.items) ≡ true → (f : Tree) → filter_of l.filter ≡ Some f
       → l.ids.items ≡ those_matched r f (take (l.counter * 100) l.fn.listed.items));
 }

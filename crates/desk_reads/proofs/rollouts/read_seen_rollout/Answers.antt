@@ -3,12 +3,12 @@ use Rattle.std.proofs.Common.{rules}
 use Rattle.desk_reads.proofs.rollouts.read_seen_rollout.Goals as goal
 
 pub returns-in-None-clause-reads : goal.returns-in-None-clause-reads
-returns-in-None-clause-reads g c = finds_as (rw c.in-None.is at (ledger_found _ c.in_ok-stored.ensures.reads))
+returns-in-None-clause-reads g c = finds_as (rw (c.in-None.is, c.get.ensures.value) at (ledger_found _ c.in_ok-stored.ensures.reads))
     (λ r is of. grind arith)
 
 pub returns-clause-reads : goal.returns-clause-reads
 returns-clause-reads g c =
-    finds_as (both_found (rw c.in-Some.is at (ledger_found _ c.in_ok-stored.ensures.reads)) c.in_ok-seen.ensures.reads)
+    finds_as (both_found (rw (c.in-Some.is, c.get.ensures.value) at (ledger_found _ c.in_ok-stored.ensures.reads)) c.in_ok-seen.ensures.reads)
     (λ r is of. grind arith)
 
 pub returns-clause-fails : goal.returns-clause-fails

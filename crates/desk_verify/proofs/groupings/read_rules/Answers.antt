@@ -15,7 +15,7 @@ returns-in_default-clause-blames g c =
 pub returns-in_err-push-clause-blames : goal.returns-in_err-push-clause-blames
 returns-in_err-push-clause-blames g c =
     let out = err_from_is_err_and c.from_residual-in_err-push.result c.from_residual-in_err-push.ensures.1 in
-    subst (BlamesGiven g.S.Store (IsAtRollout ChecksGroups c.args.rollout.now.number c.args.rollout.now.rollout) c.args.change.now c.find_rule.new.self)
+    subst (BlamesGiven g.S.Store (IsAtRollout ChecksGroups c.args.rollout.now.number c.args.rollout.now.rollout) c.args.calls.now c.find_rule.new.calls)
     (sym (out.1 ∙ ap Err out.2)) (blamed (both_found c.loop-before.invariant.reads c.in_ok-rule.ensures.reads) (Err Memory) tt)
 
 pub loop-before-preserved : goal.loop-before-preserved

@@ -1,5 +1,5 @@
 use Rattle.desk_verify.proofs.Common.{◌≡◌, ◌≤◌, ◌+◌, ◌^◌, Err, arith, rules, refl, subst, Broken, both_found, finds_as, AreChecked, blamed, within}
-use Rattle.desk_verify.proofs.Causes.{blamed_when, listed_many, up_to}
+use Rattle.desk_verify.proofs.Causes.{blamed_when, listed_many, stays_end, stays_then, up_to}
 use Rattle.desk_verify.proofs.RolloutLemmas.{none_yet, one_more}
 use Rattle.desk_verify.proofs.rollouts.check_rollouts.Goals as goal
 
@@ -43,6 +43,11 @@ returns-in_err-rollout-clause-blames g c =
       up = up_to reading.tables c.loop-before.before c.in_ok-last.last is.0 c.loop-before-test.true;
       rollouts = given.rollouts;
     }) c.from_residual-in_err-rollout.result c.from_residual-in_err-rollout.ensures.1
+
+pub returns-in_err-count-clause-stays : goal.returns-in_err-count-clause-stays
+returns-in_err-count-clause-stays g c =
+    stays_end (stays_then c.loop-before.invariant.stays _ (stays_then c.in_ok-rollout.ensures.stays _ c.in_err-count.ensures.stays)) _
+    c.from_residual-in_err-count.ensures.1
 
 pub returns-in_err-count-clause-blames : goal.returns-in_err-count-clause-blames
 returns-in_err-count-clause-blames g c =

@@ -5,9 +5,9 @@ use Rattle.desk_views.proofs.artifacts.read_pieces.Given as goal
 abbrev pub invariant-loop-bytes : goal.invariant-loop-bytes
 invariant-loop-bytes g l = record {
   few : l.pieces ≤ 64;
-  stays : StaysIn g.S.Store l.fn.change l.change (Ok (tt {0}));
-  fails : FailsAtListsIn g.S.Store l.fn.change l.change (Ok (tt {0}));
-  reads : FindsIn g.S.Store {E = Fault} l.fn.change l.change (Ok l.bytes.items)
+  stays : StaysIn g.S.Store l.fn.calls l.calls (Ok (tt {0}));
+  fails : FailsAtListsIn g.S.Store l.fn.calls l.calls (Ok (tt {0}));
+  reads : FindsIn g.S.Store {E = Fault} l.fn.calls l.calls (Ok l.bytes.items)
       (λ r items. items ≡ together (take l.pieces (pieces_of_artifact (item_numbered r.artifacts l.number))));
 }
 

@@ -1,8 +1,0 @@
-use Rattle.desk_store.proofs.Answering.{count_actions_is, count_blamed, count_read}
-use Rattle.desk_store.proofs.change.OpenChange.count_actions.Goals as goal
-
-pub returns-clause-reads : goal.returns-clause-reads
-returns-clause-reads g c = count_read count_actions_is c.in_ok-row.ensures.takes _ c.counted_in.ensures.ok
-
-pub returns-clause-blames : goal.returns-clause-blames
-returns-clause-blames g c = count_blamed count_actions_is c.in_ok-row.ensures.takes _ c.counted_in.ensures.err

@@ -1,0 +1,13 @@
+use Rattle.desk_store.proofs.Answering.{[], all_at, all_fails, arith, inr, one_listed_target, reads_all, rows_listed, ◌∙◌}
+use Rattle.desk_records.proofs.TargetLists.{lists_targets_between}
+use Rattle.desk_records.proofs.TargetMeaning.{list_targets_between_is}
+use Rattle.desk_store.proofs.targets.read_targets_between.Goals as goal
+
+pub returns-clause-reads : goal.returns-clause-reads
+returns-clause-reads g c = reads_all list_targets_between_is _
+    (λ db r holds rows shown. lists_targets_between db r holds [] c.args.first.now c.args.last.now rows shown ∙ rows_listed _)
+    (all_at c.in_ok-rows.ensures.asks (grind arith)) _ (rw c.deref.ensures.value at c.read_all.ensures.ok) one_listed_target
+
+pub returns-clause-fails : goal.returns-clause-fails
+returns-clause-fails g c = all_fails list_targets_between_is _ (λ row is. inr is) c.in_ok-rows.ensures.asks _
+    (rw c.deref.ensures.value at c.read_all.ensures.err)
