@@ -86,7 +86,8 @@ def test_those_beside_the_longest_chain_step_back():
     works, below = {"low": 2, "side": 5, "high": 9}, {"low": [], "side": [], "high": ["low"]}
     tasks = {it: (below[it], works[it], 1.0, call(it)) for it in below}
     RT_CI.Lanes(tasks, 4, ROOM, lambda *told: None).run()
-    same(found, {"low": 0, "side": RT_CI.NICER, "high": 0})
+    # (19 is the nicest there is)
+    same(found, {"low": 0, "side": min(RT_CI.NICER, 19 - own), "high": 0})
     same(os.nice(0), own)
 
 
