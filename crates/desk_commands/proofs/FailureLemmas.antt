@@ -3,7 +3,6 @@ use Rattle.desk_commands.proofs.Common.{◌≡◌, Option, Some, Ok, Err, Result
 use Rattle.desk_commands.proofs.Common.{Records, records, HoldsLedger, Ledger, ledger_of, seen_in, Fault, Ghosts, FailsGiven, HasReason, ReadableAs}
 use Rattle.desk_commands.proofs.Common.{IsReadable, Calls, IsOfList, FailsWriting}
 use Rattle.desk_commands.specs.Failures.{FailsWritingIn}
-use Rattle.desk_store.specs.Changing.{StaysIn}
 use Rattle.sqlite.specs.State.{State}
 use Rattle.sql_calls.specs.Standing.{Finds}
 
@@ -71,14 +70,3 @@ module _ {A : Type 0} {Given : Ledger → Type 0} {was new : State} {x : A} {fau
   pub never_at : ((l : Ledger) → Given l → IsOfList l) → {P : Records → A → Type 0} → Finds HoldsLedger ledger_of {E = Fault} was new (Ok x) P
       → ((h : CommandList) → IsValid h → P (records h) x → Given (ledger_of (records h)) → ⊥) → Exits Given was new fault
   never_at listed read why = asked_at listed read {Asked = λ l. ⊥} (omega arith) why (never_given (λ l none. none))
-
--- ---- one call after the other
-
-pub stays_then : {S A B : Type 0} {g : Ghosts S} {a b c : Calls S} {x : A} → StaysIn g a b (Ok x) → (out : Result B Fault) → StaysIn g b c out
-    → StaysIn g a c out
-stays_then first out second = grind arith
-
--- .. at a `?`
-pub stays_end : {S A B : Type 0} {g : Ghosts S} {a b : Calls S} {fault : Fault} → StaysIn g {A = A} a b (Err fault) → (out : Result B Fault)
-    → IsErrAnd out (λ e. e ≡ fault) → StaysIn g a b out
-stays_end first out is = grind arith

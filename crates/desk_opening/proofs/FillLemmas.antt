@@ -1,7 +1,7 @@
 -- What a migration writes into the later tables.
 use Rattle.desk_opening.proofs.Common.{◌≡◌, ◌++◌, ℕ, zero, suc, ◌+◌, List, [], ◌∷◌, length, set, Option, Some, None, option_map, refl, sym, ap, subst}
 use Rattle.desk_opening.proofs.Common.{◌∙◌, arith, GroupRule, Ledger, Version, One, FillsLater, FillsRollout, WritesCopies, WritesRules}
-use Rattle.desk_opening.proofs.Common.{same_some, Fault, Ok, Result}
+use Rattle.desk_opening.proofs.Common.{same_some}
 use Rattle.rollout_machine.specs.ByteStrings.{item_numbered}
 use Rattle.rollout_machine.specs.Ranges.{each_from}
 use Rattle.rollout_machine.proofs.Lists.{each_from_more, length_each}
@@ -11,15 +11,6 @@ use Rattle.desk_records.specs.declared.rollout_row.StoredRollout.{StoredRollout}
 use Rattle.desk_records.proofs.HeldCounts.{at_place}
 use Rattle.desk_opening.proofs.RuleLists.{WritesUpTo, rules_up_to, all_even, all_said, got_set, none_said, none_yet, one_more, set_same}
 use Rattle.std.proofs.Common.{set-set}
-use Rattle.sqlite.specs.Store.{Ghosts}
-use Rattle.sql_calls.specs.declared.calls.Calls.{Calls}
-use Rattle.desk_store.specs.Changing.{StaysIn}
-
--- ---- one call after the other
-
-pub stays_then : {S A B : Type 0} {g : Ghosts S} {a b c : Calls S} {x : A} → StaysIn g a b (Ok x) → (out : Result B Fault) → StaysIn g b c out
-    → StaysIn g a c out
-stays_then first out second = grind arith
 
 -- ---- of one rollout
 

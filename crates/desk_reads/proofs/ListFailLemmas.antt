@@ -46,10 +46,3 @@ module _ {S B : Type 0} {g : Ghosts S} {old mid : Calls S} where
       → FailsAtListsIn g old mid out
   fails_out was fault e (Ok x) is = absurd is
   fails_out was fault e (Err other) is = rw (is ∙ e) (search (was, rules))
-
--- .. of a call
-module _ {S B C : Type 0} {g : Ghosts S} {old mid new : Calls S} where
-  pub stays_on : StaysIn g old mid (Ok (tt {0})) → (fault : Fault) → StaysIn g {A = C} mid new (Err fault) → (out : Result B Fault)
-      → IsErrAnd out (λ other. other ≡ fault) → StaysIn g old new out
-  stays_on was fault now (Ok x) is = absurd is
-  stays_on was fault now (Err other) is = rw is (search (was, now, was.frame, now.frame, rules))

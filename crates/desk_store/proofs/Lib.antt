@@ -20,6 +20,7 @@ mod RawLists
 pub mod BlameLemmas
 pub mod FailLemmas
 mod StayLemmas
+pub mod CallsInTurn
 mod RowFails
 mod RawBlames
 pub mod ReadableTargets

@@ -12,7 +12,6 @@ use Rattle.std.specs.Ordering.{is_eq}
 use Rattle.std.proofs.Common.{IsErrAnd}
 use Rattle.sqlite.specs.Store.{Ghosts}
 use Rattle.desk_store.specs.Blaming.{HasUnreadable, Reading}
-use Rattle.desk_store.specs.Changing.{StaysIn}
 use Rattle.desk_store.specs.Unreadable.{HasTwins}
 use Rattle.sql_calls.specs.declared.calls.Calls.{Calls}
 use Rattle.desk_store.proofs.BlameLemmas.{found_reading, of_tables}
@@ -124,14 +123,3 @@ stops_at {B = B} {g = g} {old = old} {new = new} table read wears fault blames m
             record { table = table; agree = agree; unreadable = (blames.to reading (of_tables reading seen.0) (checks table t agree)).reason broken clean };
       };
     })
-
--- ---- one call after the other
-
-pub stays_then : {S A B : Type 0} {g : Ghosts S} {a b c : Calls S} {x : A} → StaysIn g a b (Ok x) → (out : Result B Fault) → StaysIn g b c out
-    → StaysIn g a c out
-stays_then first out second = grind arith
-
--- .. at a `?`
-pub stays_end : {S A B : Type 0} {g : Ghosts S} {a b : Calls S} {fault : Fault} → StaysIn g {A = A} a b (Err fault) → (out : Result B Fault)
-    → IsErrAnd out (λ e. e ≡ fault) → StaysIn g a b out
-stays_end first out is = grind arith

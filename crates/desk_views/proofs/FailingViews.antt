@@ -5,7 +5,6 @@ use Rattle.std.proofs.lemmas.Option.{slice_get_cases}
 use Rattle.sqlite.specs.Store.{Ghosts}
 use Rattle.desk_records.proofs.NumberColumns.{is_in_range}
 use Rattle.desk_store.specs.Breaking.{BreaksOnly}
-use Rattle.desk_store.specs.Changing.{StaysIn}
 use Rattle.desk_store.specs.Failing.{FailsGiven, nothing}
 use Rattle.sql_calls.specs.declared.calls.Calls.{Calls}
 
@@ -41,9 +40,3 @@ numbered_so n most none low high few = grind (arith, is_in_range)
 -- .. of which there is one
 pub entry_there : {X : Type 0} (xs : List X) (n : ℕ) → 1 ≤ n → n ≤ length xs → item_numbered xs n ≡ None → ⊥
 entry_there xs n low high none = grind (arith, slice_get_cases)
-
--- ---- one call after the other
-
-pub stays_then : {S A B : Type 0} {g : Ghosts S} {a b c : Calls S} {x : A} → StaysIn g a b (Ok x) → (out : Result B Fault) → StaysIn g b c out
-    → StaysIn g a c out
-stays_then first out second = grind arith

@@ -1,5 +1,5 @@
 use Rattle.desk_commands.proofs.Answering.{◌∙◌, ap, length, both_found, finds_as, ledger_found, missing}
-use Rattle.desk_commands.proofs.FailureLemmas.{stays_then}
+use Rattle.desk_store.proofs.CallsInTurn.{stays_then}
 use Rattle.std.proofs.Common.{arith}
 use Rattle.desk_commands.proofs.creation.read_view.Goals as goal
 

@@ -1,6 +1,6 @@
 use Rattle.desk_commands.proofs.Answering.{sym, rules, ◌∙◌, both_found, finds_as, ok_or_some, sees, never, never_missing, reads_end}
 use Rattle.desk_commands.proofs.ActionGroups.{has_group, never_beyond, own_is, rollout_is, rule_is_there}
-use Rattle.desk_commands.proofs.FailureLemmas.{stays_end, stays_then}
+use Rattle.desk_store.proofs.CallsInTurn.{stays_end, stays_then}
 use Rattle.desk_commands.proofs.seen_actions.see_in.Goals as goal
 
 pub returns-in_err-found-clause-stays : goal.returns-in_err-found-clause-stays

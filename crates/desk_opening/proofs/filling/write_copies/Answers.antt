@@ -1,4 +1,5 @@
-use Rattle.desk_opening.proofs.FillLemmas.{nothing_said, parts, stays_then}
+use Rattle.desk_opening.proofs.FillLemmas.{nothing_said, parts}
+use Rattle.desk_store.proofs.CallsInTurn.{stays_then}
 use Rattle.std.proofs.Common.{rules}
 use Rattle.sql_calls.proofs.Stepping.{no_step, steps_then}
 use Rattle.sql_calls.proofs.Composing.{makes_nothing, makes_then}

@@ -1,6 +1,7 @@
 use Rattle.desk_opening.proofs.Common.{arith}
 use Rattle.desk_opening.proofs.FailLemmas.{rules_fail}
-use Rattle.desk_opening.proofs.FillLemmas.{all_filled, nothing_yet, one_filled_more, stays_then}
+use Rattle.desk_opening.proofs.FillLemmas.{all_filled, nothing_yet, one_filled_more}
+use Rattle.desk_store.proofs.CallsInTurn.{stays_then}
 use Rattle.std.proofs.Common.{rules}
 use Rattle.sql_calls.proofs.Stepping.{no_step, steps_then}
 use Rattle.sql_calls.proofs.Composing.{found_then_makes, makes_nothing, makes_then}

@@ -1,5 +1,6 @@
 use Rattle.desk_opening.proofs.Common.{arith}
-use Rattle.desk_opening.proofs.FillLemmas.{copies_of, stays_then}
+use Rattle.desk_opening.proofs.FillLemmas.{copies_of}
+use Rattle.desk_store.proofs.CallsInTurn.{stays_then}
 use Rattle.sql_calls.proofs.Stepping.{steps_then}
 use Rattle.sql_calls.proofs.Composing.{found_then_makes}
 use Rattle.desk_opening.proofs.filling.write_rules_of.Goals as goal

@@ -1,7 +1,8 @@
 use Rattle.desk_reads.proofs.Common.{arith, ap, ◌∙◌, take, both_found, finds_as}
 use Rattle.std.proofs.Common.{rules}
 use Rattle.sql_calls.proofs.Composing.{known}
-use Rattle.desk_reads.proofs.ListFailLemmas.{fails_out, stays_on, stays_out}
+use Rattle.desk_reads.proofs.ListFailLemmas.{fails_out, stays_out}
+use Rattle.desk_store.proofs.CallsInTurn.{stays_end, stays_then}
 use Rattle.desk_reads.proofs.Matches.{all_kept, next_kept, next_left, next_ordered, one_part_more, parts_ended}
 use Rattle.desk_reads.specs.Matches.{is_matched}
 use Rattle.desk_reads.proofs.matching.keep_all.Goals as goal
@@ -44,7 +45,8 @@ pub returns-in_err-part-clause-fails : goal.returns-in_err-part-clause-fails
 returns-in_err-part-clause-fails g c = fails_out c.loop.invariant.fails _ c.in_err-part.ensures.err _ c.from_residual.ensures.1
 
 pub returns-in_err-keep_part-clause-stays : goal.returns-in_err-keep_part-clause-stays
-returns-in_err-keep_part-clause-stays g c = stays_on c.loop.invariant.stays _ c.in_err-keep_part.ensures.stays _ c.from_residual-in_err-keep_part.ensures.1
+returns-in_err-keep_part-clause-stays g c =
+    stays_end (stays_then c.loop.invariant.stays _ c.in_err-keep_part.ensures.stays) _ c.from_residual-in_err-keep_part.ensures.1
 
 pub returns-in_err-keep_part-clause-fails : goal.returns-in_err-keep_part-clause-fails
 returns-in_err-keep_part-clause-fails g c = search (c.loop.invariant.fails, c.in_err-keep_part.ensures.fails, rules)

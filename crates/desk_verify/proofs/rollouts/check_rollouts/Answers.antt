@@ -1,5 +1,6 @@
 use Rattle.desk_verify.proofs.Common.{◌≡◌, ◌≤◌, ◌+◌, ◌^◌, Err, arith, rules, refl, subst, Broken, both_found, finds_as, AreChecked, blamed, within}
-use Rattle.desk_verify.proofs.Causes.{blamed_when, listed_many, stays_end, stays_then, up_to}
+use Rattle.desk_verify.proofs.Causes.{blamed_when, listed_many, up_to}
+use Rattle.desk_store.proofs.CallsInTurn.{stays_end, stays_then}
 use Rattle.desk_verify.proofs.RolloutLemmas.{none_yet, one_more}
 use Rattle.desk_verify.proofs.rollouts.check_rollouts.Goals as goal
 

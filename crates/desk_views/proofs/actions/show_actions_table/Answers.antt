@@ -2,7 +2,7 @@ use Rattle.desk_views.proofs.Answering.{arith, nat_eq, sym, ap, ◌∙◌, not, 
 use Rattle.desk_views.proofs.Answering.{item_numbered, actions_of_rollout, ActionsTableShown, ledger_found, shown_among, groups_are, all_listed, none_there}
 use Rattle.desk_views.proofs.Answering.{of_rollout_is, one_there, listed_few, never_fails, told}
 use Rattle.std.proofs.Common.{rules}
-use Rattle.desk_views.proofs.FailingViews.{stays_then}
+use Rattle.desk_store.proofs.CallsInTurn.{stays_then}
 use Rattle.desk_views.proofs.actions.show_actions_table.Goals as goal
 
 pub returns-in_err-count_of-clause-stays : goal.returns-in_err-count_of-clause-stays
