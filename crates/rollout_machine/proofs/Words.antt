@@ -1,37 +1,34 @@
 -- Parts of the definitions, and tests of them, under the names by which proofs cite them.
 use Rattle.std.specs.Prelude.{ℕ, Bool, true, false, cond, fold, List, [], ◌∷◌, filter, map, nat_eq, nat_lt, Option, Some, None, is_some, not, ◌&&◌}
-use Rattle.std.specs.Cmp.Lexicographic.{pointwise}
 use Rattle.std.specs.List.{list_any}
 use Rattle.std.specs.Option.{option_and_then, option_map, option_map_or, option_to_list}
 use Rattle.rollout_machine.specs.Actions.{ActionPlace}
 use Rattle.rollout_machine.specs.Answers.{Answer, command_reply, if_found}
 use Rattle.rollout_machine.specs.CommandList.{CommandList, ◌▸◌}
-use Rattle.rollout_machine.specs.Commands.{Approve, Bad, Deny, Gone, Good, AddArtifact, AddModule, AddSet, Bytes, Command, ModuleLabel, Outcome, RolloutPlan}
+use Rattle.rollout_machine.specs.Commands.{Approve, Bad, Deny, Gone, Good, AddArtifact, AddModule, AddSet, Bytes, Command, ModuleLabel, Outcome}
 use Rattle.rollout_machine.specs.Commands.{SetLabel, TargetRow}
 use Rattle.rollout_machine.specs.Counts.{error_holds, is_outcome}
 use Rattle.rollout_machine.specs.Filters.{matches}
-use Rattle.rollout_machine.specs.Groupings.{GroupDefinition, bounds_by, percentages}
+use Rattle.rollout_machine.specs.Groupings.{GroupDefinition, percentages}
 use Rattle.rollout_machine.specs.Groups.{last_position, size_of_bounds}
 use Rattle.rollout_machine.specs.Objects.{actions_where, artifact_shown, chunks_of, modules_of_action, group_shown, page_of, rollout_shown, target_shown}
 use Rattle.rollout_machine.specs.Progress.{Pauses, Resumes, Starts, Triggers, makes}
 use Rattle.rollout_machine.specs.Ranges.{each_from, is_some_and, numbered}
 use Rattle.rollout_machine.specs.Records.{ActionRecord, Approval, ArtifactRecord, Denied, Given, GroupRecord, Records, RolloutRecord, Waiting, artifact_from}
 use Rattle.rollout_machine.specs.Records.{records, rollout_in}
-use Rattle.rollout_machine.specs.Repeats.{same_row}
 use Rattle.rollout_machine.specs.Replies.{ArtifactAdded, Deployment, Done, Refused, Reply, ShownAction, ShownGroup, ShownRollout, ShownTarget, TargetsShown}
 use Rattle.rollout_machine.specs.Reports.{Fresh, HistoryEntry, Numbered, Reported, Standing, against, bearing}
 use Rattle.rollout_machine.specs.Requests.{Page}
 use Rattle.rollout_machine.specs.Rollouts.{Rollout, chosen, size_of}
 use Rattle.rollout_machine.specs.Splits.{first_empty, split_last}
-use Rattle.rollout_machine.specs.StateWords.{PausedRollout, ReadyRollout, RolloutWord, RunningRollout, WaitingForApproval, group_holding, has_started, is_for}
+use Rattle.rollout_machine.specs.StateWords.{PausedRollout, ReadyRollout, RolloutWord, RunningRollout, WaitingForApproval, group_holding, is_for}
 use Rattle.rollout_machine.specs.StateWords.{InError, InSync, Pending, TargetWord, Unknown, group_numbered, rollout_word}
-use Rattle.rollout_machine.specs.ByteStrings.{item_numbered, same_bytes, sorted_words}
+use Rattle.rollout_machine.specs.ByteStrings.{item_numbered, sorted_words}
 use Rattle.rollout_machine.specs.Targets.{Target, targets}
 use Rattle.rollout_model.specs.Rules.{is_feedback_number, is_module_list, is_text}
 use Rattle.rollout_model.specs.declared.refusal.Refusal.{Refusal}
 use Rattle.rollout_model.specs.declared.refusal.Refusal.TheVariants.{BadFilter}
 use Rattle.rollout_model.specs.declared.target.Target.{Target as SeenTarget}
-use Rattle.rollout_machine.specs.declared.bounds.Bounds.{Bounds}
 use Rattle.target_filter.specs.Grammar.{Tree}
 use Rattle.target_filter.specs.Profile.{filter_of}
 use Rattle.rollout_machine.specs.Verdicts.{same_word, says_note}

@@ -1,5 +1,5 @@
 -- What a desk answers, and which command the answer appends.
-use Rattle.std.specs.Prelude.{◌≡◌, ◌≢◌, ◌⊎◌, ℕ, Bool, true, false, ◌&&◌, not, cond, nat_eq, List, [], ◌∷◌, map, filter, flat_map, length, Option, Some, None}
+use Rattle.std.specs.Prelude.{◌≡◌, ◌≢◌, ◌⊎◌, ℕ, Bool, true, false, ◌&&◌, not, cond, nat_eq, List, [], map, filter, flat_map, length, Option, Some, None}
 use Rattle.std.specs.Option.{option_and_then, option_map_or, option_to_list}
 use Rattle.std.specs.List.{list_any, find}
 use Rattle.rollout_machine.specs.ByteStrings.{item_numbered, same_bytes}
@@ -12,8 +12,7 @@ use Rattle.rollout_machine.specs.Objects.{entry_shown, group_shown, members_in, 
 use Rattle.rollout_machine.specs.Objects.{page_of, report_of, rollout_shown, set_shown, target_shown}
 use Rattle.rollout_machine.specs.Ranges.{numbered}
 use Rattle.rollout_machine.specs.Offers.{Offer, offer}
-use Rattle.rollout_machine.specs.Records.{ArtifactRecord, GroupRecord, RolloutRecord, ActionRecord, Records, records}
-use Rattle.rollout_model.specs.declared.refusal.Refusal.{Refusal}
+use Rattle.rollout_machine.specs.Records.{ArtifactRecord, RolloutRecord, ActionRecord, Records, records}
 use Rattle.rollout_model.specs.declared.refusal.Refusal.TheVariants.{Unauthorized, NotFound, BadFilter, NoMemory, StoreFailed}
 use Rattle.rollout_machine.specs.Replies.{Reply, Refused, Done, ModuleAdded, ArtifactAdded, SetAdded, TargetsPut, RolloutAdded, PollShown}
 use Rattle.rollout_machine.specs.Replies.{DeploymentShown, CancelShown, ContentsShown, TargetsShown, TargetShown, ActionsShown, ActionShown}

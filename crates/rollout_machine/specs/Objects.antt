@@ -6,7 +6,7 @@ use Rattle.rollout_machine.specs.Commands.{Bytes, ModuleLabel, SetLabel}
 use Rattle.rollout_machine.specs.Groups.{size_of_bounds}
 use Rattle.rollout_machine.specs.Records.{ArtifactRecord, GroupRecord, RolloutRecord, ActionRecord, Records}
 use Rattle.rollout_machine.specs.Replies.{Module, Artifact, DistributionSet, ShownTarget, ShownRollout, ShownGroup, ShownAction, ShownEntry, Chunk}
-use Rattle.rollout_machine.specs.Replies.{Deployment, PageOf, Report}
+use Rattle.rollout_machine.specs.Replies.{PageOf, Report}
 use Rattle.rollout_machine.specs.Reports.{Reported}
 use Rattle.rollout_machine.specs.Requests.{Page}
 use Rattle.rollout_machine.specs.Rollouts.{rule_at}

@@ -3,7 +3,7 @@ use Rattle.std.specs.Prelude.{ℕ, Bool, true, false, cond, nat_eq, List, [], �
 use Rattle.std.specs.Option.{option_or}
 use Rattle.rollout_machine.specs.Actions.{ActionPlace, action_places, outcome, is_canceling, history}
 use Rattle.rollout_machine.specs.CommandList.{CommandList, Make, ◌▸◌}
-use Rattle.rollout_machine.specs.Commands.{Bytes, ModuleLabel, SetLabel, Upload, Command, AddModule, AddArtifact, AddSet, Approve, Deny}
+use Rattle.rollout_machine.specs.Commands.{Bytes, ModuleLabel, SetLabel, Upload, AddModule, AddArtifact, AddSet, Approve, Deny}
 use Rattle.rollout_machine.specs.Commands.{Good, Bad, Gone}
 use Rattle.rollout_machine.specs.Counts.{tally}
 use Rattle.rollout_machine.specs.Digests.{digest_of}

@@ -1,5 +1,5 @@
 -- The state words of rollouts, groups, actions and targets, read from the records.
-use Rattle.std.specs.Prelude.{ℕ, ◌+◌, Bool, ◌&&◌, not, cond, nat_eq, List, [], ◌∷◌, filter, fold, Option, Some, None, is_none}
+use Rattle.std.specs.Prelude.{ℕ, ◌+◌, Bool, ◌&&◌, not, cond, nat_eq, List, [], filter, fold, Option, Some, None, is_none}
 use Rattle.std.specs.Option.{option_map_or, unwrap_or}
 use Rattle.std.specs.List.{list_any, list_all, find}
 use Rattle.rollout_machine.specs.ByteStrings.{item_numbered, same_bytes}

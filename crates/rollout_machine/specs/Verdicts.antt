@@ -5,9 +5,9 @@ use Rattle.std.specs.List.{list_any, find}
 use Rattle.rollout_machine.specs.Actions.{outcome_of_deployment, outcome_of_cancel}
 use Rattle.rollout_machine.specs.ByteStrings.{item_numbered, same_bytes, contains_word, with_words}
 use Rattle.rollout_machine.specs.CommandList.{CommandList}
-use Rattle.rollout_machine.specs.Commands.{Bytes, Credential, TargetRow, Attribute, ModuleLabel, SetLabel, Upload, RolloutPlan, NotedCancel, Command}
+use Rattle.rollout_machine.specs.Commands.{Bytes, Credential, TargetRow, Attribute, ModuleLabel, SetLabel, Upload, NotedCancel, Command}
 use Rattle.rollout_machine.specs.Commands.{AddModule, AddArtifact, AddSet, PutTargets, Tag, Untag, PutAttributes, CreateRollout, Approve, Deny, Start}
-use Rattle.rollout_machine.specs.Commands.{Pause, Resume, TriggerNext, Cancel, Feedback, CancelFeedback, Outcome}
+use Rattle.rollout_machine.specs.Commands.{Pause, Resume, TriggerNext, Cancel, Feedback, CancelFeedback}
 use Rattle.rollout_machine.specs.Counts.{is_outcome}
 use Rattle.rollout_machine.specs.Digests.{digest_of}
 use Rattle.rollout_machine.specs.Groupings.{leaves_empty}
