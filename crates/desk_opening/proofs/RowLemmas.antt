@@ -5,6 +5,9 @@ use Rattle.desk_opening.proofs.Common.{has_rowid, cases_Bool, Term, col, lit, Da
 use Rattle.desk_opening.proofs.Common.{TakesFirst, first_shown, first_unchanged, none_shown, shows_as, passes, shown_of, simple_rows, desk_table, GET_DESK}
 use Rattle.desk_opening.proofs.Common.{is_equal, get_desk_is, OpenFault, NotDesk, NewerVersion, Version, HasDeskAt, HasNoRow, HasRow, IsWholeAt}
 use Rattle.desk_opening.proofs.Common.{LacksAt, LacksTables, TellsOfRow, TellsVersion, IsDeskRow, IsNewerRow, IsOtherRow, and-true, asked_at}
+use Rattle.sql_calls.proofs.Leavings.{first_asked_well}
+use Rattle.sql_calls.specs.declared.fault.Fault.TheVariants.{Broken}
+use Rattle.desk_records.proofs.Meaning.{get_desk_takes}
 use Rattle.sqlite_value.specs.Order.{value_cmp}
 use Rattle.sqlite_rules.proofs.ListLemmas.{all_from, has_filtered, has_kept}
 use Rattle.std.proofs.lemmas.List.Sorted.{IsPermutation-sym}
@@ -82,6 +85,12 @@ tells_seen b c found row schema out is took here told clean table = grind (arith
 pub tells_none : (b c : State) (found : Option Row) → found ≡ None → TakesFirst b c GET_DESK.now [] (Ok found) → HasCleanDisk c
     → TellsVersion b.now (Err NotDesk)
 tells_none b c found is took clean table = inr (inl (reads_none b c (subst (λ o. TakesFirst b c GET_DESK.now [] (Ok o)) is took) clean table))
+
+-- a query that the table doesn't answer: a desk's does
+pub tells_other : (b c : State) → TakesFirst b c GET_DESK.now [] (Err Broken) → HasCleanDisk c → TellsVersion b.now (Err NotDesk)
+tells_other b c took clean table =
+    let means = (asked_at get_desk_is).at b.now.schema table.at table.tree table.stands in let failed = took.answers clean in
+    absurd (first_asked_well GET_DESK.now _ [] b c means refl get_desk_takes failed.0 failed.2 (sym failed.1))
 
 -- ---- what a row says
 

@@ -183,9 +183,12 @@ fn see_version<S: Alter>(alloc: Global, calls: &mut Calls<S>) -> Result<Version,
     ensures counts { CountsOpening calls.old calls.new result }
     ensures tells { HasCleanDisk (state S.Store calls.new.conn) → TellsVersion (state S.Store calls.old.conn).now result }
 {
-    match calls.first(GET_DESK, &[])? {
-        Some(row) => judge_whole(alloc, calls.schema(), &row),
-        None => Err(OpenFault::NotDesk),
+    match calls.first(GET_DESK, &[]) {
+        Ok(Some(row)) => judge_whole(alloc, calls.schema(), &row),
+        Ok(None) => Err(OpenFault::NotDesk),
+        // The table isn't the one that this query asks.
+        Err(Fault::Broken) => Err(OpenFault::NotDesk),
+        Err(fault) => Err(OpenFault::from(fault)),
     }
 }
 

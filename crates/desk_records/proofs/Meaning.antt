@@ -1,6 +1,7 @@
 -- Written by tools/gen/sql-proofs. What it makes is proved; the tool is not trusted.
 -- What the texts of src/texts.rt mean, wherever their tables stand.
-use Rattle.desk_records.proofs.Common.{refl, List, [], ◌∷◌, ℕ, codes, pos, Null, Int, Text, Values, Query, Term, lit, col, simple}
+use Rattle.desk_records.proofs.Common.{refl, List, [], ◌∷◌, ℕ, codes, pos, arith, Null, Int, Text, Values, Query, Term, lit, col, simple}
+use Rattle.sql_calls.specs.private.Means.{Takes}
 use Rattle.desk_records.specs.declared.texts.TheConstants.{PUT_DESK, SET_VERSION, GET_DESK, FIND_MODULE, LAST_MODULE, GET_MODULE, PUT_MODULE}
 use Rattle.desk_records.specs.Schema.{Desk, Modules}
 use Rattle.desk_records.proofs.MeaningWords.{compiling, Asks, Puts, Changes, is_equal, at_key, greatest_number, changing}
@@ -26,20 +27,32 @@ desk_query tree = simple tree (is_equal (col 1 0) (lit (Int (pos 1))) ∷ []) (c
 pub get_desk_is : Asks Desk GET_DESK.now desk_query (codes "format" ∷ codes "version" ∷ codes "approval" ∷ [])
 get_desk_is = unfold compiling in record { queries = λ tree. record { parsed = _; select = _; source = _; page = _; shown = _; read = refl; is = (refl, refl, refl, refl); core = (refl, refl, refl); from = (refl, refl, refl, refl, refl); shows = (tt, (tt, (tt, tt))); filter = ((refl, λ cx how x y. refl), tt, tt); sorts = tt; paged = λ s. refl; named = (refl, refl); becomes = (refl, (refl, refl, refl)) }; shape = λ tree. refl }
 
+pub get_desk_takes : Takes GET_DESK.now 0
+get_desk_takes = unfold compiling in record { parsed = _; read = refl; whole = omega arith; names = refl }
+
 abbrev pub same_label : List Term
 same_label = at_key 2 0 ∷ at_key 3 1 ∷ at_key 4 2 ∷ []
 
 pub find_module_is : Asks Modules FIND_MODULE.now (λ tree. simple tree same_label (col 1 0 ∷ [])) (codes "number" ∷ [])
 find_module_is = unfold compiling in record { queries = λ tree. record { parsed = _; select = _; source = _; page = _; shown = _; read = refl; is = (refl, refl, refl, refl); core = (refl, refl, refl); from = (refl, refl, refl, refl, refl); shows = (tt, tt); filter = ((refl, λ cx how x y. refl), ((refl, λ cx how x y. refl), ((refl, λ cx how x y. refl), tt, tt), ((refl, λ cx how x y. refl), tt, tt)), ((refl, λ cx how x y. refl), tt, tt)); sorts = tt; paged = λ s. refl; named = (refl, refl); becomes = (refl, (refl, refl, refl)) }; shape = λ tree. refl }
 
+pub find_module_takes : Takes FIND_MODULE.now 3
+find_module_takes = unfold compiling in record { parsed = _; read = refl; whole = omega arith; names = refl }
+
 pub last_module_is : Asks Modules LAST_MODULE.now greatest_number (codes "number" ∷ [])
 last_module_is = unfold compiling in record { queries = λ tree. record { parsed = _; select = _; source = _; page = _; shown = _; read = refl; is = (refl, refl, refl, refl); core = (refl, refl, refl); from = (refl, refl, refl, refl, refl); shows = (tt, tt); filter = tt; sorts = (tt, tt); paged = λ s. refl; named = (refl, refl); becomes = (refl, (refl, refl, refl)) }; shape = λ tree. refl }
+
+pub last_module_takes : Takes LAST_MODULE.now 0
+last_module_takes = unfold compiling in record { parsed = _; read = refl; whole = omega arith; names = refl }
 
 abbrev pub label_columns : List Term
 label_columns = col 1 2 ∷ col 1 3 ∷ col 1 4 ∷ []
 
 pub get_module_is : Asks Modules GET_MODULE.now (λ tree. simple tree (at_key 0 0 ∷ []) label_columns) (codes "name" ∷ codes "type" ∷ codes "version" ∷ [])
 get_module_is = unfold compiling in record { queries = λ tree. record { parsed = _; select = _; source = _; page = _; shown = _; read = refl; is = (refl, refl, refl, refl); core = (refl, refl, refl); from = (refl, refl, refl, refl, refl); shows = (tt, (tt, (tt, tt))); filter = ((refl, λ cx how x y. refl), tt, tt); sorts = tt; paged = λ s. refl; named = (refl, refl); becomes = (refl, (refl, refl, refl)) }; shape = λ tree. refl }
+
+pub get_module_takes : Takes GET_MODULE.now 1
+get_module_takes = unfold compiling in record { parsed = _; read = refl; whole = omega arith; names = refl }
 
 abbrev pub module_terms : List Term
 module_terms = col 0 0 ∷ lit Null ∷ col 0 1 ∷ col 0 2 ∷ col 0 3 ∷ []

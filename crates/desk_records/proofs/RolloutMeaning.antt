@@ -1,6 +1,7 @@
 -- Written by tools/gen/sql-proofs. What it makes is proved; the tool is not trusted.
 -- What the texts of src/rollout_texts.rt mean, wherever their tables stand.
-use Rattle.desk_records.proofs.Common.{refl, List, [], ◌∷◌, ℕ, codes, pos, false, Null, Int, Values, Query, Term, lit, col, simple}
+use Rattle.desk_records.proofs.Common.{refl, List, [], ◌∷◌, ℕ, codes, pos, false, arith, Null, Int, Values, Query, Term, lit, col, simple}
+use Rattle.sql_calls.specs.private.Means.{Takes}
 use Rattle.desk_records.specs.declared.rollout_texts.TheConstants.{FIND_ROLLOUT, LAST_ROLLOUT, GET_ROLLOUT, LIST_MEMBERS, LIST_PLACES, COUNT_MEMBERS, LIST_GROUPS, COUNT_GROUPS, GET_GROUP, HOLDING_GROUP, GROUP_AND_NEXT, PUT_ROLLOUT, SET_ROLLOUT, PUT_MEMBER, PUT_MEMBERS, PUT_GROUP, SET_GROUP, GET_RULE, LIST_RULES, PUT_RULE}
 use Rattle.desk_records.specs.Schema.{Rollouts, Members, Groups, Rules}
 use Rattle.desk_records.proofs.MeaningWords.{compiling, Asks, Counts, Puts, Changes, at_key, past, at_least, at_most, in_order, greatest_number, changing, no_limit, no_offset}
@@ -11,8 +12,14 @@ same_name = at_key 2 0 ∷ []
 pub find_rollout_is : Asks Rollouts FIND_ROLLOUT.now (λ tree. simple tree same_name (col 1 0 ∷ [])) (codes "number" ∷ [])
 find_rollout_is = unfold compiling in record { queries = λ tree. record { parsed = _; select = _; source = _; page = _; shown = _; read = refl; is = (refl, refl, refl, refl); core = (refl, refl, refl); from = (refl, refl, refl, refl, refl); shows = (tt, tt); filter = ((refl, λ cx how x y. refl), tt, tt); sorts = tt; paged = λ s. refl; named = (refl, refl); becomes = (refl, (refl, refl, refl)) }; shape = λ tree. refl }
 
+pub find_rollout_takes : Takes FIND_ROLLOUT.now 1
+find_rollout_takes = unfold compiling in record { parsed = _; read = refl; whole = omega arith; names = refl }
+
 pub last_rollout_is : Asks Rollouts LAST_ROLLOUT.now greatest_number (codes "number" ∷ [])
 last_rollout_is = unfold compiling in record { queries = λ tree. record { parsed = _; select = _; source = _; page = _; shown = _; read = refl; is = (refl, refl, refl, refl); core = (refl, refl, refl); from = (refl, refl, refl, refl, refl); shows = (tt, tt); filter = tt; sorts = (tt, tt); paged = λ s. refl; named = (refl, refl); becomes = (refl, (refl, refl, refl)) }; shape = λ tree. refl }
+
+pub last_rollout_takes : Takes LAST_ROLLOUT.now 0
+last_rollout_takes = unfold compiling in record { parsed = _; read = refl; whole = omega arith; names = refl }
 
 abbrev pub rollout_names : List (List ℕ)
 rollout_names = codes "name" ∷ codes "dset" ∷ codes "filter_text" ∷ codes "groups" ∷ codes "success" ∷ codes "error" ∷ codes "approval" ∷ codes "started" ∷ codes "paused" ∷ []
@@ -23,6 +30,9 @@ rollout_columns = col 1 2 ∷ col 1 3 ∷ col 1 4 ∷ col 1 5 ∷ col 1 6 ∷ co
 pub get_rollout_is : Asks Rollouts GET_ROLLOUT.now (λ tree. simple tree (at_key 0 0 ∷ []) rollout_columns) rollout_names
 get_rollout_is = unfold compiling in record { queries = λ tree. record { parsed = _; select = _; source = _; page = _; shown = _; read = refl; is = (refl, refl, refl, refl); core = (refl, refl, refl); from = (refl, refl, refl, refl, refl); shows = (tt, (tt, (tt, (tt, (tt, (tt, (tt, (tt, (tt, tt))))))))); filter = ((refl, λ cx how x y. refl), tt, tt); sorts = tt; paged = λ s. refl; named = (refl, refl); becomes = (refl, (refl, refl, refl)) }; shape = λ tree. refl }
 
+pub get_rollout_takes : Takes GET_ROLLOUT.now 1
+get_rollout_takes = unfold compiling in record { parsed = _; read = refl; whole = omega arith; names = refl }
+
 abbrev pub after_place : List Term
 after_place = at_key 1 0 ∷ past 2 1 ∷ []
 
@@ -31,6 +41,9 @@ member_columns = col 1 3 ∷ []
 
 pub list_members_is : Asks Members LIST_MEMBERS.now (in_order 2 false after_place member_columns (col 0 2) no_offset) (codes "controller" ∷ [])
 list_members_is = unfold compiling in record { queries = λ tree. record { parsed = _; select = _; source = _; page = _; shown = _; read = refl; is = (refl, refl, refl, refl); core = (refl, refl, refl); from = (refl, refl, refl, refl, refl); shows = (tt, tt); filter = ((refl, λ cx how x y. refl), ((refl, λ cx how x y. refl), tt, tt), ((refl, λ cx how x y. refl), tt, tt)); sorts = (tt, tt); paged = λ s. refl; named = (refl, refl); becomes = (refl, (refl, refl, refl)) }; shape = λ tree. refl }
+
+pub list_members_takes : Takes LIST_MEMBERS.now 3
+list_members_takes = unfold compiling in record { parsed = _; read = refl; whole = omega arith; names = refl }
 
 abbrev pub of_rollout : List Term
 of_rollout = at_key 1 0 ∷ []
@@ -44,8 +57,14 @@ places_query tree = in_order 2 false of_rollout placed_columns no_limit no_offse
 pub list_places_is : Asks Members LIST_PLACES.now places_query (codes "controller" ∷ codes "place" ∷ [])
 list_places_is = unfold compiling in record { queries = λ tree. record { parsed = _; select = _; source = _; page = _; shown = _; read = refl; is = (refl, refl, refl, refl); core = (refl, refl, refl); from = (refl, refl, refl, refl, refl); shows = (tt, (tt, tt)); filter = ((refl, λ cx how x y. refl), tt, tt); sorts = (tt, tt); paged = λ s. refl; named = (refl, refl); becomes = (refl, (refl, refl, refl)) }; shape = λ tree. refl }
 
+pub list_places_takes : Takes LIST_PLACES.now 1
+list_places_takes = unfold compiling in record { parsed = _; read = refl; whole = omega arith; names = refl }
+
 pub count_members_is : Counts Members COUNT_MEMBERS.now
 count_members_is = unfold compiling in record { queries = λ tree. record { parsed = _; select = _; source = _; page = _; shown = _; read = refl; is = (refl, refl, refl, refl); core = (refl, refl, refl); from = (refl, refl, refl, refl, refl); shows = (tt, tt); filter = tt; sorts = tt; paged = λ s. refl; named = (refl, refl); becomes = (refl, (refl, refl, refl)) } }
+
+pub count_members_takes : Takes COUNT_MEMBERS.now 0
+count_members_takes = unfold compiling in record { parsed = _; read = refl; whole = omega arith; names = refl }
 
 abbrev pub group_columns : List Term
 group_columns = col 1 2 ∷ col 1 3 ∷ col 1 4 ∷ col 1 5 ∷ col 1 6 ∷ col 1 7 ∷ col 1 8 ∷ []
@@ -53,8 +72,14 @@ group_columns = col 1 2 ∷ col 1 3 ∷ col 1 4 ∷ col 1 5 ∷ col 1 6 ∷ col 
 pub list_groups_is : Asks Groups LIST_GROUPS.now (in_order 2 false of_rollout group_columns no_limit no_offset) (codes "number" ∷ codes "first_place" ∷ codes "last_place" ∷ codes "started" ∷ codes "ok" ∷ codes "bad" ∷ codes "gone" ∷ [])
 list_groups_is = unfold compiling in record { queries = λ tree. record { parsed = _; select = _; source = _; page = _; shown = _; read = refl; is = (refl, refl, refl, refl); core = (refl, refl, refl); from = (refl, refl, refl, refl, refl); shows = (tt, (tt, (tt, (tt, (tt, (tt, (tt, tt))))))); filter = ((refl, λ cx how x y. refl), tt, tt); sorts = (tt, tt); paged = λ s. refl; named = (refl, refl); becomes = (refl, (refl, refl, refl)) }; shape = λ tree. refl }
 
+pub list_groups_takes : Takes LIST_GROUPS.now 1
+list_groups_takes = unfold compiling in record { parsed = _; read = refl; whole = omega arith; names = refl }
+
 pub count_groups_is : Counts Groups COUNT_GROUPS.now
 count_groups_is = unfold compiling in record { queries = λ tree. record { parsed = _; select = _; source = _; page = _; shown = _; read = refl; is = (refl, refl, refl, refl); core = (refl, refl, refl); from = (refl, refl, refl, refl, refl); shows = (tt, tt); filter = tt; sorts = tt; paged = λ s. refl; named = (refl, refl); becomes = (refl, (refl, refl, refl)) } }
+
+pub count_groups_takes : Takes COUNT_GROUPS.now 0
+count_groups_takes = unfold compiling in record { parsed = _; read = refl; whole = omega arith; names = refl }
 
 abbrev pub of_group : List Term
 of_group = at_key 1 0 ∷ at_key 2 1 ∷ []
@@ -62,17 +87,26 @@ of_group = at_key 1 0 ∷ at_key 2 1 ∷ []
 pub get_group_is : Asks Groups GET_GROUP.now (in_order 2 false of_group group_columns no_limit no_offset) (codes "number" ∷ codes "first_place" ∷ codes "last_place" ∷ codes "started" ∷ codes "ok" ∷ codes "bad" ∷ codes "gone" ∷ [])
 get_group_is = unfold compiling in record { queries = λ tree. record { parsed = _; select = _; source = _; page = _; shown = _; read = refl; is = (refl, refl, refl, refl); core = (refl, refl, refl); from = (refl, refl, refl, refl, refl); shows = (tt, (tt, (tt, (tt, (tt, (tt, (tt, tt))))))); filter = ((refl, λ cx how x y. refl), ((refl, λ cx how x y. refl), tt, tt), ((refl, λ cx how x y. refl), tt, tt)); sorts = (tt, tt); paged = λ s. refl; named = (refl, refl); becomes = (refl, (refl, refl, refl)) }; shape = λ tree. refl }
 
+pub get_group_takes : Takes GET_GROUP.now 2
+get_group_takes = unfold compiling in record { parsed = _; read = refl; whole = omega arith; names = refl }
+
 abbrev pub holding : List Term
 holding = at_key 1 0 ∷ at_most 3 1 ∷ at_least 4 1 ∷ []
 
 pub holding_group_is : Asks Groups HOLDING_GROUP.now (in_order 2 false holding group_columns no_limit no_offset) (codes "number" ∷ codes "first_place" ∷ codes "last_place" ∷ codes "started" ∷ codes "ok" ∷ codes "bad" ∷ codes "gone" ∷ [])
 holding_group_is = unfold compiling in record { queries = λ tree. record { parsed = _; select = _; source = _; page = _; shown = _; read = refl; is = (refl, refl, refl, refl); core = (refl, refl, refl); from = (refl, refl, refl, refl, refl); shows = (tt, (tt, (tt, (tt, (tt, (tt, (tt, tt))))))); filter = ((refl, λ cx how x y. refl), ((refl, λ cx how x y. refl), ((refl, λ cx how x y. refl), tt, tt), ((refl, λ cx how x y. refl), tt, tt)), ((refl, λ cx how x y. refl), tt, tt)); sorts = (tt, tt); paged = λ s. refl; named = (refl, refl); becomes = (refl, (refl, refl, refl)) }; shape = λ tree. refl }
 
+pub holding_group_takes : Takes HOLDING_GROUP.now 2
+holding_group_takes = unfold compiling in record { parsed = _; read = refl; whole = omega arith; names = refl }
+
 abbrev pub reaching : List Term
 reaching = at_key 1 0 ∷ at_least 4 1 ∷ []
 
 pub group_and_next_is : Asks Groups GROUP_AND_NEXT.now (in_order 2 false reaching group_columns (lit (Int (pos 2))) no_offset) (codes "number" ∷ codes "first_place" ∷ codes "last_place" ∷ codes "started" ∷ codes "ok" ∷ codes "bad" ∷ codes "gone" ∷ [])
 group_and_next_is = unfold compiling in record { queries = λ tree. record { parsed = _; select = _; source = _; page = _; shown = _; read = refl; is = (refl, refl, refl, refl); core = (refl, refl, refl); from = (refl, refl, refl, refl, refl); shows = (tt, (tt, (tt, (tt, (tt, (tt, (tt, tt))))))); filter = ((refl, λ cx how x y. refl), ((refl, λ cx how x y. refl), tt, tt), ((refl, λ cx how x y. refl), tt, tt)); sorts = (tt, tt); paged = λ s. refl; named = (refl, refl); becomes = (refl, (refl, refl, refl)) }; shape = λ tree. refl }
+
+pub group_and_next_takes : Takes GROUP_AND_NEXT.now 2
+group_and_next_takes = unfold compiling in record { parsed = _; read = refl; whole = omega arith; names = refl }
 
 abbrev pub rollout_terms : List Term
 rollout_terms = col 0 0 ∷ lit Null ∷ col 0 1 ∷ col 0 2 ∷ col 0 3 ∷ col 0 4 ∷ col 0 5 ∷ col 0 6 ∷ col 0 7 ∷ lit (Int (pos 0)) ∷ lit (Int (pos 0)) ∷ []
@@ -116,8 +150,14 @@ rule_columns = col 1 3 ∷ col 1 4 ∷ col 1 5 ∷ []
 pub get_rule_is : Asks Rules GET_RULE.now (λ tree. simple tree of_group rule_columns) (codes "percentage" ∷ codes "success" ∷ codes "error" ∷ [])
 get_rule_is = unfold compiling in record { queries = λ tree. record { parsed = _; select = _; source = _; page = _; shown = _; read = refl; is = (refl, refl, refl, refl); core = (refl, refl, refl); from = (refl, refl, refl, refl, refl); shows = (tt, (tt, (tt, tt))); filter = ((refl, λ cx how x y. refl), ((refl, λ cx how x y. refl), tt, tt), ((refl, λ cx how x y. refl), tt, tt)); sorts = tt; paged = λ s. refl; named = (refl, refl); becomes = (refl, (refl, refl, refl)) }; shape = λ tree. refl }
 
+pub get_rule_takes : Takes GET_RULE.now 2
+get_rule_takes = unfold compiling in record { parsed = _; read = refl; whole = omega arith; names = refl }
+
 pub list_rules_is : Asks Rules LIST_RULES.now (in_order 2 false of_rollout rule_columns no_limit no_offset) (codes "percentage" ∷ codes "success" ∷ codes "error" ∷ [])
 list_rules_is = unfold compiling in record { queries = λ tree. record { parsed = _; select = _; source = _; page = _; shown = _; read = refl; is = (refl, refl, refl, refl); core = (refl, refl, refl); from = (refl, refl, refl, refl, refl); shows = (tt, (tt, (tt, tt))); filter = ((refl, λ cx how x y. refl), tt, tt); sorts = (tt, tt); paged = λ s. refl; named = (refl, refl); becomes = (refl, (refl, refl, refl)) }; shape = λ tree. refl }
+
+pub list_rules_takes : Takes LIST_RULES.now 1
+list_rules_takes = unfold compiling in record { parsed = _; read = refl; whole = omega arith; names = refl }
 
 abbrev pub rule_terms : List Term
 rule_terms = lit Null ∷ col 0 0 ∷ col 0 1 ∷ col 0 2 ∷ col 0 3 ∷ col 0 4 ∷ []

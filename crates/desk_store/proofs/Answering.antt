@@ -24,7 +24,7 @@ pub use Rattle.desk_store.proofs.GroupOfferCalls.{knows_put_group_offers}
 pub use Rattle.desk_store.proofs.MemberActionCalls.{knows_put_actions}
 pub use Rattle.desk_store.proofs.MemberCalls.{pushed}
 pub use Rattle.desk_store.proofs.Common.{adds_member, adds_sixteen}
-pub use Rattle.desk_store.proofs.Known.{in_ledgers, known}
+pub use Rattle.desk_store.proofs.Known.{asked_in_ledgers, in_ledgers, known}
 pub use Rattle.desk_store.proofs.LedgerReads.{both_mapped}
 pub use Rattle.desk_store.proofs.NextOfferCalls.{next_offer_read}
 pub use Rattle.desk_store.proofs.RawBlames.{all_blamed, count_blamed, last_blamed, long_action, no_offer, place_count_blamed, two_blamed}
@@ -36,6 +36,7 @@ pub use Rattle.desk_store.proofs.ReadLemmas.{all_at, first_at, few_asks, all_rea
 pub use Rattle.desk_store.proofs.ReadLemmas.{reads_one, reads_whether, told_broken}
 pub use Rattle.desk_store.proofs.RolloutCalls.{approval_read, group_and_next_read, never_three_groups, rollout_read, last_read}
 pub use Rattle.desk_store.proofs.RowFails.{approval_fails, count_fails, last_tells_only, last_fails, next_fails, no_action, no_key}
+pub use Rattle.desk_store.proofs.SoundQueries.{ask_is_told, asked_in_readings, few_is_told, first_is_told, never_breaks, never_breaks_first}
 pub use Rattle.desk_store.proofs.StayLemmas.{put_advances, read_advances}
 pub use Rattle.desk_store.proofs.TargetCalls.{rows_listed}
 pub use Rattle.desk_store.proofs.WriteCalls.{changes, drops, puts, writes}

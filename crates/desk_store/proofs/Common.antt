@@ -33,7 +33,7 @@ pub use Rattle.sql_calls.proofs.Counts.{count_rows}
 pub use Rattle.sql_calls.proofs.Finding.{ShowsFirst, ask_finds, first_finds, run_makes}
 pub use Rattle.sql_calls.proofs.Selects.{by, ordered_rows, passes, shown_in, shown_of, simple}
 pub use Rattle.sql_calls.specs.Calls.{AsksFew, AsksText, RunsText, TakesFirst, errors_in, few_of}
-pub use Rattle.sql_calls.specs.private.Means.{Known, Knows, KnowsWrite, writes_rows}
+pub use Rattle.sql_calls.specs.private.Means.{Known, Knows, KnowsQuery, KnowsWrite, Takes, writes_rows}
 pub use Rattle.sql_calls.specs.Standing.{Commits, Finds, GivesUp, Makes, Sees, Wears}
 pub use Rattle.sql_calls.specs.declared.fault.Fault.{Fault}
 pub use Rattle.sql_calls.specs.declared.fault.Fault.TheVariants.{Broken}

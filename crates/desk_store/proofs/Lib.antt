@@ -25,4 +25,5 @@ mod RowFails
 mod RawBlames
 pub mod ReadableTargets
 pub mod ReadableHistories
+mod SoundQueries
 mod Answering

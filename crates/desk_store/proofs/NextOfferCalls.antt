@@ -1,8 +1,9 @@
 -- The call on the next offer, whose text names two tables.
 use Rattle.desk_store.proofs.Common.{◌≡◌, ℕ, pos, Int, [], ◌∷◌, length, Option, Some, Ok, Result, IfOk, refl, ap, codes, Text, Row, Select, State, Fault}
 use Rattle.desk_store.proofs.Common.{TakesFirst, Finds}
-use Rattle.desk_store.proofs.Common.{Knows, Bytes, Offer, NEXT_OFFER, HoldsLedger, Ledger, IsOfferRow, Actions, Groups, HoldsTables, next_offer_query}
+use Rattle.desk_store.proofs.Common.{Knows, KnowsQuery, Bytes, Offer, NEXT_OFFER, HoldsLedger, Ledger, IsOfferRow, Actions, Groups, HoldsTables, next_offer_query}
 use Rattle.desk_store.proofs.Common.{next_offer_is, shown_offer, IsReadAs, next_offer, gets_next_offer}
+use Rattle.desk_records.proofs.ActionMeaning.{next_offer_takes}
 use Rattle.desk_store.proofs.Known.{in_ledgers}
 use Rattle.desk_records.proofs.RowsTold.{one_offer}
 use Rattle.desk_store.proofs.ReadLemmas.{first_tells, one_read}
@@ -14,6 +15,9 @@ next db tables holds = record {
   means = next_offer_is db.schema (holds.spot Actions).at (holds.spot Actions).tree (holds.spot Groups).at (holds.spot Groups).tree
       (holds.stands Actions) (holds.stands Groups);
 }
+
+abbrev pub next_asked : KnowsQuery HoldsTables NEXT_OFFER.now 2
+next_asked = record { knows = next; takes = next_offer_takes; asks = λ db tables holds. refl }
 
 pub next_offer_read : (id : Bytes) (k : ℕ) {old new : State} {row : Option Row} → TakesFirst old new NEXT_OFFER.now (Text id ∷ Int (pos k) ∷ []) (Ok row)
     → (out : Result (Option Offer) Fault) → IfOk out (λ found. IsReadAs IsOfferRow found row)

@@ -23,6 +23,10 @@ module _ {S : Type 0} (g : Ghosts S) where
   abbrev pub FailsIn : {A : Type 0} → Calls S → Calls S → Result A Fault → Type 0
   FailsIn = BreaksOnly g HoldsLedger IsReadable nothing
 
+  -- whether or not it can be read
+  abbrev pub NeverFails : {A : Type 0} → Calls S → Calls S → Result A Fault → Type 0
+  NeverFails = BreaksOnly g HoldsLedger (λ l. Unit {0}) nothing
+
   -- the same where the columns of one table keep their rules
   abbrev pub FailsKeeping : Place → {A : Type 0} → Calls S → Calls S → Result A Fault → Type 0
   FailsKeeping place = BreaksOnly g HoldsLedger (KeepsColumns place) nothing

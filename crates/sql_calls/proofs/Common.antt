@@ -20,7 +20,7 @@ pub use Rattle.sqlite.specs.Does.{OnRows, Tally}
 pub use Rattle.sqlite.specs.Edit.{Applies, Edit, edit_of, edited, taken_by}
 pub use Rattle.sqlite.specs.Effect.{Answers, Database, IsSource, RefusesToRead, value_rows}
 pub use Rattle.sqlite.specs.Kind.TheVariants.{Integer}
-pub use Rattle.sqlite.specs.Listing.{understood}
+pub use Rattle.sqlite.specs.Listing.{understood, reads_listing}
 pub use Rattle.sqlite.specs.Order.{Row}
 pub use Rattle.sqlite.specs.Program.{overlay}
 pub use Rattle.sqlite.specs.Query.{IsAnswer, Output, Query, counted, end, inner, output, output_cmp, page}
@@ -66,7 +66,7 @@ pub use Rattle.sql_calls.proofs.Apart.{HasNoForeignKey}
 pub use Rattle.sql_calls.specs.Calls.{AsksFew, AsksText, RunsText, TakesFirst, TakesTo, few_of}
 pub use Rattle.sql_calls.proofs.Columns.{HaveKeysApart, Rise}
 pub use Rattle.sql_calls.specs.Keyed.{AreIn, IsHeldBy, rows_from}
-pub use Rattle.sql_calls.specs.private.Means.{Known, Knows, KnowsWrite, Means, writes_rows}
+pub use Rattle.sql_calls.specs.private.Means.{Known, Knows, KnowsQuery, KnowsWrite, Means, Takes, writes_rows}
 pub use Rattle.sql_calls.specs.Standing.{Begins, Commits, Finds, FrameTo, GivesUp, HoldIn, IsAtRest, IsInDoubt, IsInside, IsSpoiled, Keeps, Makes, Opens, Rests}
 pub use Rattle.sql_calls.specs.Standing.{Sees, Shows, Spoiled}
 pub use Rattle.sql_calls.specs.declared.fault.Fault.{Fault}

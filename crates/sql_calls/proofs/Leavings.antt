@@ -1,14 +1,19 @@
 -- What a statement leaves, whatever the database holds.
 use Rattle.sql_calls.proofs.Common.{◌≡◌, ◌⊎◌, inl, inr, ℕ, Bool, true, false, List, [], ◌∷◌, Option, Some, None, Ok, Err, IsTrue, refl, sym, ap, subst, ◌∙◌}
-use Rattle.sql_calls.proofs.Common.{slice_get, cases_Bool, both_ways, Row, Trees, Command, Begin, Commit, Rollback, Release, understood, Database}
+use Rattle.sql_calls.proofs.Common.{slice_get, cases_Bool, both_ways, Row, Trees, Command, Begin, Commit, Rollback, Release, Database}
 use Rattle.sql_calls.proofs.Common.{RefusesToRead, State, HasCleanDisk, IsUnchanged, IsRolledBack, Survives, Executes, RunsCommand, Runs, FailsToShow}
-use Rattle.sql_calls.proofs.Common.{store_error, EndsIn, command_of, statement_of, runs_as, reads_as, begins_shown, Means, arith}
+use Rattle.sql_calls.proofs.Common.{store_error, EndsIn, command_of, statement_of, runs_as, reads_as, begins_shown, Means, Takes, length, arith}
+use Rattle.sqlite.specs.Listing.{understood}
 use Rattle.sqlite.specs.declared.error.Error.{Error}
 use Rattle.sqlite.specs.declared.error.Error.TheVariants.{QueryReturnedNoRows}
 use Rattle.sqlite_trees.specs.declared.error.StoreError.{StoreError}
+use Rattle.sqlite_syntax.specs.declared.statement.Parsed.{Parsed}
+use Rattle.sqlite_resolve.specs.Compile.{compiled, first, planned}
 use Rattle.sqlite_resolve.specs.declared.compiled.Compiled.{Compiled}
 use Rattle.sqlite_schema.specs.declared.command.Returning.{Returning}
-use Rattle.sqlite.specs.Effect.{Reads as Shows}
+use Rattle.sqlite.specs.Effect.{Reads as Shows, is_query}
+use Rattle.sql_calls.specs.Faults.{fault_asked}
+use Rattle.sql_calls.specs.declared.fault.Fault.TheVariants.{Broken}
 use Rattle.sqlite.specs.State.{ExecutesIn, IsNotRun, FailsToQuery, Shown, Begins, QueriesRow, CommitsShowing, CommitsBy}
 
 -- nothing changed, or the transaction is undone
@@ -122,6 +127,23 @@ module _ (sql : List ℕ) (command : Command) (params : Row) (old new : State) (
   pub none_shown : QueriesRow sql params old new (Err QueryReturnedNoRows) → Shown sql params old new []
   unfolding QueriesRow
   none_shown h0 = grind (arith, answered)
+
+  -- a query of so many parameters that the schema understands fails for no reason of its text
+  parsed_as : (p : Parsed) (c : Compiled) → first sql ≡ Ok p → understood old.now.schema sql ≡ Ok c → (c.names ≡ p.names) × (c.tail ≡ p.tail)
+  unfolding understood compiled
+  parsed_as p c read is = elim (planned old.now.schema p) as (λ v. planned old.now.schema p ≡ v → (c.names ≡ p.names) × (c.tail ≡ p.tail)) [
+    | Ok plan ↦ λ e. grind arith
+    | Err fault ↦ λ e. grind arith
+  ] refl
+
+  pub asked_well : is_query command ≡ true → Takes sql (length params) → (e : Error) → FailsToQuery sql params old new e → ¬ (fault_asked e ≡ Broken)
+  unfolding FailsToQuery IsNotRun
+  asked_well asks takes e h broken = grind (arith, parsed_as, is_named)
+
+  pub first_asked_well : is_query command ≡ true → Takes sql (length params) → (e : Error) → QueriesRow sql params old new (Err e)
+      → ¬ (fault_asked e ≡ Broken)
+  unfolding QueriesRow
+  first_asked_well asks takes e h broken = grind (arith, asked_well)
 
   -- a query that failed for another reason
   pub first_fails : (e : Error) → QueriesRow sql params old new (Err e) → Leaves old new

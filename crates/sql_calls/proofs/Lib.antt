@@ -1,4 +1,5 @@
 pub mod Apart
+pub mod Asking
 pub mod Columns
 pub mod Common
 pub mod Ends

@@ -9,7 +9,7 @@ use Rattle.sql_calls.specs.declared.calls.Work.{Work}
 use Rattle.sql_calls.specs.declared.calls.Calls.{Calls}
 use Rattle.sql_calls.specs.declared.fault.Fault.{Fault}
 use Rattle.sql_calls.specs.declared.fault.Fault.TheVariants.{Broken, Memory, Store}
-use Rattle.sql_calls.specs.Faults.{fault_named}
+use Rattle.sql_calls.specs.Faults.{fault_named, fault_asked}
 
 -- ---- the work
 
@@ -84,7 +84,7 @@ pub record RunsText (old new : State) (sql : List ℕ) (params : Row) (result : 
 
 abbrev pub AsksTo : State → State → List ℕ → Row → Result (Vec Row Global) Fault → Type 0
 AsksTo old new sql params (Ok rows) = Shown sql params old new rows.items
-AsksTo old new sql params (Err fault) = (error : Error) × (fault ≡ fault_named error) × FailsToQuery sql params old new error
+AsksTo old new sql params (Err fault) = (error : Error) × (fault ≡ fault_asked error) × FailsToQuery sql params old new error
 
 -- a query, and all its rows
 pub record AsksText (old new : State) (sql : List ℕ) (params : Row) (result : Result (Vec Row Global) Fault) : Type 0 where
@@ -105,7 +105,7 @@ pub record AsksFew (old new : State) (sql : List ℕ) (params : Row) (most : ℕ
 abbrev pub TakesTo : State → State → List ℕ → Row → Result (Option Row) Fault → Type 0
 TakesTo old new sql params (Ok (Some row)) = QueriesRow sql params old new (Ok row)
 TakesTo old new sql params (Ok None) = QueriesRow sql params old new (Err QueryReturnedNoRows)
-TakesTo old new sql params (Err fault) = (error : Error) × (fault ≡ fault_named error) × QueriesRow sql params old new (Err error)
+TakesTo old new sql params (Err fault) = (error : Error) × (fault ≡ fault_asked error) × QueriesRow sql params old new (Err error)
 
 -- a query, and its first row
 pub record TakesFirst (old new : State) (sql : List ℕ) (params : Row) (result : Result (Option Row) Fault) : Type 0 where

@@ -6,7 +6,7 @@ ghost use Rattle.sqlite.specs.Values.{bound};
 ghost use Rattle.sql_calls.specs.Calls.{RunsText, AsksText, AsksFew, TakesFirst, Grows, counts, no_work, since, rows_in, row_in, few_in, few_of};
 ghost use Rattle.sql_calls.specs.Calls.{fails, failures_of, failures_in, errors_in};
 
-use crate::fault::{Fault, fault_of};
+use crate::fault::{Fault, asked_fault_of, fault_of};
 use sqlite::types::ValueRef;
 use sqlite::{Alter, Connection, Error, Row};
 use sqlite_schema::schema::Schema;
@@ -122,7 +122,6 @@ impl<S: Alter> Calls<S> {
     /// Runs one query, and takes all its rows.
     pub fn ask(&mut self, sql: &str, params: &[ValueRef<'_>]) -> Result<Vec<Row>, Fault>
         ensures asks { AsksText (state S.Store self.old.conn) (state S.Store self.new.conn) sql.now (bound params.now) result }
-        ensures sound { IfErr result (λ fault. fault ≢ Fault.Broken) }
         ensures work { self.new.work ≡ counts self.old.work (rows_in result) }
         ensures failures { self.new.failures ≡ fails (failures_in result) self.old.failures }
         ensures grows { Grows (failures_in result) self.old self.new }
@@ -139,7 +138,6 @@ impl<S: Alter> Calls<S> {
         most: usize,
     ) -> Result<Option<Vec<Row>>, Fault>
         ensures asks { AsksFew (state S.Store self.old.conn) (state S.Store self.new.conn) sql.now (bound params.now) most result }
-        ensures sound { IfErr result (λ fault. fault ≢ Fault.Broken) }
         ensures few { IfOk result (λ found. IfSome found (λ rows. length rows.items ≤ most)) }
         ensures work { self.new.work ≡ counts self.old.work (few_in result) }
         ensures failures { self.new.failures ≡ fails (failures_in result) self.old.failures }
@@ -165,7 +163,6 @@ impl<S: Alter> Calls<S> {
     /// Runs one query, and takes its first row, if there is one.
     pub fn first(&mut self, sql: &str, params: &[ValueRef<'_>]) -> Result<Option<Row>, Fault>
         ensures takes { TakesFirst (state S.Store self.old.conn) (state S.Store self.new.conn) sql.now (bound params.now) result }
-        ensures sound { IfErr result (λ fault. fault ≢ Fault.Broken) }
         ensures work { self.new.work ≡ counts self.old.work (row_in result) }
         ensures failures { self.new.failures ≡ fails (failures_in result) self.old.failures }
         ensures grows { Grows (failures_in result) self.old self.new }
@@ -316,17 +313,15 @@ fn ask_on<S: Alter>(
     params: &[ValueRef<'_>],
 ) -> Result<Vec<Row>, Fault>
     ensures asks { AsksText (state S.Store conn.old) (state S.Store conn.new) sql.now (bound params.now) result }
-    ensures sound { IfErr result (λ fault. fault ≢ Fault.Broken) }
 {
     match conn.query_all(sql, params) {
         Ok(rows) => Ok(rows),
-        Err(error) => Err(fault_of(error)),
+        Err(error) => Err(asked_fault_of(error)),
     }
 }
 
 fn few_of(answer: Result<Vec<Row>, Fault>, most: usize) -> Result<Option<Vec<Row>>, Fault>
     ensures few { result ≡ few_of most answer }
-    ensures sound { IfErr answer (λ fault. fault ≢ Fault.Broken) → IfErr result (λ fault. fault ≢ Fault.Broken) }
     ensures at_most { IfOk result (λ found. IfSome found (λ rows. length rows.items ≤ most)) }
 {
     let rows = answer?;
@@ -343,11 +338,10 @@ fn first_on<S: Alter>(
     params: &[ValueRef<'_>],
 ) -> Result<Option<Row>, Fault>
     ensures takes { TakesFirst (state S.Store conn.old) (state S.Store conn.new) sql.now (bound params.now) result }
-    ensures sound { IfErr result (λ fault. fault ≢ Fault.Broken) }
 {
     match conn.query_row(sql, params) {
         Ok(row) => Ok(Some(row)),
         Err(Error::QueryReturnedNoRows) => Ok(None),
-        Err(error) => Err(fault_of(error)),
+        Err(error) => Err(asked_fault_of(error)),
     }
 }

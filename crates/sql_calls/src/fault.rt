@@ -1,7 +1,7 @@
 //! Why a statement failed.
 
 ghost use Rattle.std.specs.Prelude.{◌≡◌, ◌≢◌};
-ghost use Rattle.sql_calls.specs.Faults.{broken_named, fault_named};
+ghost use Rattle.sql_calls.specs.Faults.{broken_named, fault_asked, fault_named};
 ghost use Rattle.sql_calls.specs.declared.fault.Fault.TheVariants.{Memory};
 
 use sqlite::{Error, ErrorCode};
@@ -14,7 +14,8 @@ pub enum Fault {
     Memory,
     /// Anything else that `sqlite` answered. It is counted as a failure.
     Store,
-    /// What was read isn't what was written. No call says it: who reads rows does.
+    /// What was read isn't what was written: a value that its column can't have, or a query that the tables aren't made for.
+    /// It isn't counted as a failure.
     Broken,
 }
 
@@ -26,6 +27,21 @@ pub fn fault_of(error: Error) -> Fault
     match error {
         Error::SqliteFailure(ErrorCode::OutOfMemory) => Fault::Memory,
         _ => Fault::Store,
+    }
+}
+
+/// The fault that an error of a query is: `Broken` where its text isn't understood, is no query or takes another count of
+/// parameters.
+pub(crate) fn asked_fault_of(error: Error) -> Fault
+    ensures { result ≡ fault_asked error }
+{
+    match error {
+        Error::SqlInputError(_)
+        | Error::MultipleStatement
+        | Error::InvalidParameterCount(_, _)
+        | Error::InvalidQuery
+        | Error::SqliteFailure(ErrorCode::NoClock) => Fault::Broken,
+        error => fault_of(error),
     }
 }
 

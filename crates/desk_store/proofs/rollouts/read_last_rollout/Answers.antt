@@ -1,9 +1,12 @@
 use Rattle.desk_store.proofs.Answering.{[], first_tells, inl, known, last_blamed, last_fails, last_tells_only, last_read, last_rollout_is, lasts_any, no_key}
-use Rattle.desk_store.proofs.Answering.{read_advances}
+use Rattle.desk_store.proofs.Answering.{never_breaks, read_advances}
 use Rattle.desk_store.proofs.rollouts.read_last_rollout.Goals as goal
 
 pub returns-in_err-row-clause-standing : goal.returns-in_err-row-clause-standing
 returns-in_err-row-clause-standing g c = read_advances (known last_rollout_is) c.in_err-row.ensures.takes _ (λ bad. c.from_residual.ensures.0)
+
+pub returns-in_err-row-clause-columns : goal.returns-in_err-row-clause-columns
+returns-in_err-row-clause-columns g c = never_breaks c.in_err-row.ensures.never _ c.from_residual.ensures.1
 
 pub returns-clause-standing : goal.returns-clause-standing
 returns-clause-standing g c = read_advances (known last_rollout_is) c.in_ok-row.ensures.takes _ (λ bad. absurd cc)
