@@ -6,6 +6,7 @@ use Rattle.desk_opening.proofs.Common.{TakesFirst, first_shown, first_unchanged,
 use Rattle.desk_opening.proofs.Common.{is_equal, get_desk_is, OpenFault, NotDesk, NewerVersion, Version, HasDeskAt, HasNoRow, HasRow, IsWholeAt}
 use Rattle.desk_opening.proofs.Common.{LacksAt, LacksTables, TellsOfRow, TellsVersion, IsDeskRow, IsNewerRow, IsOtherRow, and-true, asked_at}
 use Rattle.sql_calls.proofs.Leavings.{first_asked_well}
+use Rattle.sql_calls.specs.declared.fault.Fault.{Fault}
 use Rattle.sql_calls.specs.declared.fault.Fault.TheVariants.{Broken}
 use Rattle.desk_records.proofs.Meaning.{get_desk_takes}
 use Rattle.sqlite_value.specs.Order.{value_cmp}
@@ -87,10 +88,11 @@ pub tells_none : (b c : State) (found : Option Row) → found ≡ None → Takes
 tells_none b c found is took clean table = inr (inl (reads_none b c (subst (λ o. TakesFirst b c GET_DESK.now [] (Ok o)) is took) clean table))
 
 -- a query that the table doesn't answer: a desk's does
-pub tells_other : (b c : State) → TakesFirst b c GET_DESK.now [] (Err Broken) → HasCleanDisk c → TellsVersion b.now (Err NotDesk)
-tells_other b c took clean table =
+pub tells_other : (b c : State) (fault : Fault) → fault ≡ Broken → TakesFirst b c GET_DESK.now [] (Err fault) → HasCleanDisk c
+    → TellsVersion b.now (Err NotDesk)
+tells_other b c fault is took clean table =
     let means = (asked_at get_desk_is).at b.now.schema table.at table.tree table.stands in let failed = took.answers clean in
-    absurd (first_asked_well GET_DESK.now _ [] b c means refl get_desk_takes failed.0 failed.2 (sym failed.1))
+    absurd (first_asked_well GET_DESK.now _ [] b c means refl get_desk_takes failed.0 failed.2 (sym failed.1 ∙ is))
 
 -- ---- what a row says
 

@@ -3,6 +3,11 @@ use Rattle.desk_opening.proofs.AdoptLemmas.{adopts_renewed, stood_at}
 use Rattle.desk_opening.proofs.CountLemmas.{counts_within}
 use Rattle.desk_opening.proofs.opening.take_over.Goals as goal
 
+pub returns-in_err-version-clause-adopts : goal.returns-in_err-version-clause-adopts
+returns-in_err-version-clause-adopts g c =
+    let table = subst (λ s. StandsSomewhere s (desk_table 0)) c.schema.ensures (c.in_ok-has_table.ensures.found c.if-not-branch.false) in
+    grind (arith, table, c.in_err-version.ensures.keeps, c.in_err-version.ensures.tells, c.from_residual-in_err-version.ensures.1)
+
 pub returns : goal.returns
 returns g c =
     let table = subst (λ s. StandsSomewhere s (desk_table 0)) c.schema.ensures (c.in_ok-has_table.ensures.found c.if-not-branch.false) in

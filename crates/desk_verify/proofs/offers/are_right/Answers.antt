@@ -10,6 +10,9 @@ returns-then-not-branch-clause-judges g c =
     (all_has (IsRight t) c.args.offers.now c.offer-item.result right
     (has_at c.args.offers.now c.loop-offer.offer-index c.offer-item.result c.loop-offer-test.true c.offer-item.is)))
 
+pub returns-in_err-is_right-clause-blames : goal.returns-in_err-is_right-clause-blames
+returns-in_err-is_right-clause-blames g c = search rules
+
 pub loop-offer-preserved : goal.loop-offer-preserved
 loop-offer-preserved g c = record {
   stays = search rules;

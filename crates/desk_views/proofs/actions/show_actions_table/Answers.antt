@@ -2,8 +2,16 @@ use Rattle.desk_views.proofs.Answering.{arith, nat_eq, sym, ap, ◌∙◌, not, 
 use Rattle.desk_views.proofs.Answering.{item_numbered, actions_of_rollout, ActionsTableShown, ledger_found, shown_among, groups_are, all_listed, none_there}
 use Rattle.desk_views.proofs.Answering.{of_rollout_is, one_there, listed_few, never_fails, told}
 use Rattle.std.proofs.Common.{rules}
-use Rattle.desk_store.proofs.CallsInTurn.{stays_then}
+use Rattle.desk_store.proofs.CallsInTurn.{stays_end, stays_then}
 use Rattle.desk_views.proofs.actions.show_actions_table.Goals as goal
+
+pub returns-in_err-all-clause-stays : goal.returns-in_err-all-clause-stays
+returns-in_err-all-clause-stays g c =
+    stays_end (stays_then c.in_ok-read_rollout.ensures.stays _ c.in_err-all.ensures.stays) _ c.from_residual-in_err-all.ensures.1
+
+pub returns-in_err-all-clause-fails : goal.returns-in_err-all-clause-fails
+returns-in_err-all-clause-fails g c =
+    search (c.in_ok-read_rollout.ensures.fails, c.in_err-all.ensures.fails, c.from_residual-in_err-all.ensures.1, rules)
 
 pub returns-in_err-count_of-clause-stays : goal.returns-in_err-count_of-clause-stays
 returns-in_err-count_of-clause-stays g c = search (

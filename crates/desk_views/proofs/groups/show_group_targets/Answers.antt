@@ -1,7 +1,17 @@
 use Rattle.desk_views.proofs.FailingGroups.{group_there}
 use Rattle.desk_views.proofs.Answering.{arith, ap, ◌∙◌, both_found, finds_as, targets_of, item_numbered, members_in, page_of, targets_shown, TargetsShown}
 use Rattle.desk_views.proofs.Answering.{group_numbered, ledger_found, groups_are, group_small, never_fails, told, one_group, members_paged}
+use Rattle.desk_store.proofs.CallsInTurn.{stays_end, stays_then}
 use Rattle.desk_views.proofs.groups.show_group_targets.Goals as goal
+
+pub returns-in_err-content-clause-stays : goal.returns-in_err-content-clause-stays
+returns-in_err-content-clause-stays g c =
+    stays_end (stays_then c.in_ok-found.ensures.stays _ (stays_then c.in_ok-members.ensures.stays _ c.in_err-content.ensures.stays)) _
+    c.from_residual-in_err-content.ensures.1
+
+pub returns-in_err-content-clause-fails : goal.returns-in_err-content-clause-fails
+returns-in_err-content-clause-fails g c =
+    grind (arith, c.in_ok-found.ensures.fails, c.in_ok-members.ensures.fails, c.in_err-content.ensures.fails, c.from_residual-in_err-content.ensures.1)
 
 pub returns-in-None-clause-shows : goal.returns-in-None-clause-shows
 returns-in-None-clause-shows g c = finds_as (rw c.in-None.is at (ledger_found _ c.in_ok-found.ensures.reads)) (λ r is of. grind (arith, groups_are))

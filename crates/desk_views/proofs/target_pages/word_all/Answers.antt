@@ -1,7 +1,11 @@
 use Rattle.desk_views.proofs.Common.{arith, map-append}
 use Rattle.desk_views.proofs.Answering.{map, ap, ◌∙◌, rules, both_found, finds_as, worded, all_given}
 use Rattle.std.specs.Result.{is_ok}
+use Rattle.desk_store.proofs.CallsInTurn.{stays_then}
 use Rattle.desk_views.proofs.target_pages.word_all.Goals as goal
+
+pub returns-in-Err-clause-stays : goal.returns-in-Err-clause-stays
+returns-in-Err-clause-stays g c = let it = stays_then c.loop-target.invariant.stays _ c.in_ok-shown.ensures.stays in grind arith
 
 pub loop-target-preserved : goal.loop-target-preserved
 loop-target-preserved g c = record {

@@ -1,7 +1,11 @@
 use Rattle.desk_views.proofs.MemberViews.{one_more}
 use Rattle.std.proofs.lemmas.List.{take_more}
 use Rattle.desk_views.proofs.Answering.{arith, ap, ◌∙◌, rules, take_all, both_found, finds_as, targets_of, targets_shown}
+use Rattle.desk_store.proofs.CallsInTurn.{stays_end, stays_then}
 use Rattle.desk_views.proofs.targets.read_targets.Goals as goal
+
+pub returns-in_err-add_target-clause-stays : goal.returns-in_err-add_target-clause-stays
+returns-in_err-add_target-clause-stays g c = stays_end (stays_then c.loop-id.invariant.stays _ c.in_err-add_target.ensures.stays) _ c.from_residual.ensures.1
 
 pub loop-id-preserved : goal.loop-id-preserved
 loop-id-preserved g c = record {
