@@ -1,7 +1,13 @@
-use Rattle.desk_commands.proofs.Answering.{◌∙◌, ap, length, both_found, finds_as, ledger_found, missing}
+use Rattle.desk_commands.proofs.Answering.{◌∙◌, ap, length, both_found, finds_as, ledger_found, missing, reads_end}
 use Rattle.desk_store.proofs.CallsInTurn.{stays_then}
 use Rattle.std.proofs.Common.{arith}
 use Rattle.desk_commands.proofs.creation.read_view.Goals as goal
+
+pub returns-in_err-approval-clause-fails : goal.returns-in_err-approval-clause-fails
+returns-in_err-approval-clause-fails g c =
+    reads_end (λ l sees given.
+    let named = c.in_ok-same_name.ensures.fails.to l (c.in_ok-last_set.ensures.fails.to l sees) in
+    c.in_err-approval.ensures.fails.to l (c.in_ok-count.ensures.fails.to l named) given.readable) c.from_residual-in_err-approval.ensures.1
 
 pub returns-in_err-approval-clause-stays : goal.returns-in_err-approval-clause-stays
 returns-in_err-approval-clause-stays g c =

@@ -1,7 +1,14 @@
-use Rattle.desk_commands.proofs.Answering.{sym, rules, ◌∙◌, both_found, finds_as, ok_or_some, sees, never, never_missing, reads_end}
+use Rattle.desk_commands.proofs.Answering.{arith, sym, rules, ◌∙◌, both_found, finds_as, ok_or_some, sees, never, never_missing, reads_end}
 use Rattle.desk_commands.proofs.ActionGroups.{has_group, never_beyond, own_is, rollout_is, rule_is_there}
 use Rattle.desk_store.proofs.CallsInTurn.{stays_end, stays_then}
 use Rattle.desk_commands.proofs.seen_actions.see_in.Goals as goal
+
+pub returns-clause-stays : goal.returns-clause-stays
+returns-clause-stays g c =
+    let it = stays_then c.in_ok-read_rollout.ensures.stays _ (stays_then c.in_ok-found.ensures.stays _ c.in_ok-read_rule.ensures.stays) in grind arith
+
+pub returns-clause-fails : goal.returns-clause-fails
+returns-clause-fails g c = grind (arith, c.in_ok-read_rollout.ensures.fails, c.in_ok-found.ensures.fails, c.in_ok-read_rule.ensures.fails)
 
 pub returns-in_err-found-clause-stays : goal.returns-in_err-found-clause-stays
 returns-in_err-found-clause-stays g c =
