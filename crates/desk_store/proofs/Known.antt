@@ -1,5 +1,6 @@
 -- What a text on one table means where tables are held, whatever rows they have, and so where a ledger is.
-use Rattle.desk_store.proofs.Common.{◌≡◌, ℕ, true, List, [], refl, subst, Null, Row, Database, Command, Query, simple, by, Knows, KnowsQuery, KnowsWrite, Takes, writes_rows}
+use Rattle.desk_store.proofs.Common.{◌≡◌, ℕ, true, List, [], refl, subst, Null, Row, Database, Command, Query, simple, by, Knows, KnowsQuery, KnowsWrite}
+use Rattle.desk_store.proofs.Common.{Takes, writes_rows}
 use Rattle.desk_store.proofs.Common.{Place, HoldsLedger, HoldsTables, Tables, rows_of, Asks, Counts, counted_at}
 use Rattle.sqlite.specs.Effect.{Reads as Shows, is_query}
 use Rattle.sqlite.specs.Program.{overlay}

@@ -1,7 +1,8 @@
 -- The call on the next offer, whose text names two tables.
 use Rattle.desk_store.proofs.Common.{◌≡◌, ℕ, pos, Int, [], ◌∷◌, length, Option, Some, Ok, Result, IfOk, refl, ap, codes, Text, Row, Select, State, Fault}
 use Rattle.desk_store.proofs.Common.{TakesFirst, Finds}
-use Rattle.desk_store.proofs.Common.{Knows, KnowsQuery, Bytes, Offer, NEXT_OFFER, HoldsLedger, Ledger, IsOfferRow, Actions, Groups, HoldsTables, next_offer_query}
+use Rattle.desk_store.proofs.Common.{Knows, KnowsQuery, Bytes, Offer, NEXT_OFFER, HoldsLedger, Ledger, IsOfferRow, Actions, Groups, HoldsTables}
+use Rattle.desk_store.proofs.Common.{next_offer_query}
 use Rattle.desk_store.proofs.Common.{next_offer_is, shown_offer, IsReadAs, next_offer, gets_next_offer}
 use Rattle.desk_records.proofs.ActionMeaning.{next_offer_takes}
 use Rattle.desk_store.proofs.Known.{in_ledgers}

@@ -1,5 +1,6 @@
 -- A query that its tables understand tells no broken rows.
-use Rattle.desk_store.proofs.Common.{◌≡◌, ℕ, List, Option, Result, Ok, Vec, length, Global, Row, Database, Ghosts, Fault, Calls, AsksFew, AsksText, TakesFirst, arith}
+use Rattle.desk_store.proofs.Common.{◌≡◌, ℕ, List, Option, Result, Ok, Vec, length, Global, Row, Database, Ghosts, Fault, Calls, AsksFew, AsksText, TakesFirst}
+use Rattle.desk_store.proofs.Common.{arith}
 use Rattle.desk_store.proofs.Common.{HoldsLedger, HoldsTables, KnowsQuery, Ledger, seen_in}
 use Rattle.std.specs.Prelude.{Err}
 use Rattle.std.specs.Result.{IsErrAnd}

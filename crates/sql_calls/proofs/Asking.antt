@@ -11,7 +11,10 @@ seen_then old new sees clean wears = sees.sees (grind arith)
 module _ {R : Type 0} {Holds : Database → R → Type 0} {sql : List ℕ} {params : Row} {old new : State}
     (query : KnowsQuery Holds sql (length params)) (r : R) (sees : Sees Holds old r) (clean : HasCleanDisk new) where
   pub ask_is_sound : (fault : Fault) → AsksText old new sql params (Err fault) → ¬ (fault ≡ Broken)
-  ask_is_sound fault h broken = let seen = seen_then old new sees clean h.survives.clean in let k = query.knows old.now r seen.now_holds in let failed = h.answers clean in
+  ask_is_sound fault h broken =
+      let seen = seen_then old new sees clean h.survives.clean in
+      let k = query.knows old.now r seen.now_holds in
+      let failed = h.answers clean in
       asked_well sql k.command params old new k.means (query.asks old.now r seen.now_holds) query.takes failed.0 failed.2 (sym failed.1 ∙ broken)
 
   pub few_is_sound : (most : ℕ) (fault : Fault) → AsksFew old new sql params most (Err fault) → ¬ (fault ≡ Broken)
@@ -22,5 +25,8 @@ module _ {R : Type 0} {Holds : Database → R → Type 0} {sql : List ℕ} {para
       go (Err its) asks few = ask_is_sound its asks (grind arith)
 
   pub first_is_sound : (fault : Fault) → TakesFirst old new sql params (Err fault) → ¬ (fault ≡ Broken)
-  first_is_sound fault h broken = let seen = seen_then old new sees clean h.survives.clean in let k = query.knows old.now r seen.now_holds in let failed = h.answers clean in
+  first_is_sound fault h broken =
+      let seen = seen_then old new sees clean h.survives.clean in
+      let k = query.knows old.now r seen.now_holds in
+      let failed = h.answers clean in
       first_asked_well sql k.command params old new k.means (query.asks old.now r seen.now_holds) query.takes failed.0 failed.2 (sym failed.1 ∙ broken)

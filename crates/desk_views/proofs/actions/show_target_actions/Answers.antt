@@ -1,7 +1,18 @@
 use Rattle.desk_views.proofs.Answering.{arith, sym, ap, ◌∙◌, not, map, take, drop, length, same_bytes, actor_of, is_some, both_found}
 use Rattle.desk_views.proofs.Answering.{finds_as, stored_target, actions_of_target, page_of, ActionsShown, target_of, ledger_found, ShownAction}
 use Rattle.desk_views.proofs.Answering.{none_there, numbers_are, one_there, page_counted, numbers_few, never_fails, told, id_found}
+use Rattle.std.proofs.Common.{rules}
+use Rattle.desk_store.proofs.CallsInTurn.{stays_end, stays_then}
 use Rattle.desk_views.proofs.actions.show_target_actions.Goals as goal
+
+pub returns-in_err-content-clause-stays : goal.returns-in_err-content-clause-stays
+returns-in_err-content-clause-stays g c =
+    stays_end (stays_then c.in_ok-read_target.ensures.stays _ (stays_then c.in_ok-numbers.ensures.stays _ c.in_err-content.ensures.stays)) _
+    c.from_residual-in_err-content.ensures.1
+
+pub returns-in_err-content-clause-fails : goal.returns-in_err-content-clause-fails
+returns-in_err-content-clause-fails g c =
+    search (c.in_ok-read_target.ensures.fails, c.in_ok-numbers.ensures.fails, c.in_err-content.ensures.fails, c.from_residual-in_err-content.ensures.1, rules)
 
 pub returns-then-is_none-clause-shows : goal.returns-then-is_none-clause-shows
 returns-then-is_none-clause-shows g c =

@@ -1,7 +1,13 @@
 use Rattle.desk_views.proofs.Answering.{false, both_found, finds_as, ledger_found}
 use Rattle.std.proofs.Common.{arith}
 use Rattle.desk_views.proofs.KeptViews.{kept_offer}
+use Rattle.desk_store.proofs.CallsInTurn.{stays_end, stays_then}
 use Rattle.desk_views.proofs.deployments.show_deployment.Goals as goal
+
+pub returns-in_err-chunks-clause-stays : goal.returns-in_err-chunks-clause-stays
+returns-in_err-chunks-clause-stays g c =
+    stays_end (stays_then c.in_ok-knows_device.ensures.stays _ (stays_then c.in_ok-offer.ensures.stays _ c.in_err-chunks.ensures.stays)) _
+    c.from_residual-in_err-chunks.ensures.1
 
 pub returns-then-not-branch-clause-reads : goal.returns-then-not-branch-clause-reads
 returns-then-not-branch-clause-reads g c = finds_as (rw c.if-not-branch.true at c.in_ok-knows_device.ensures.reads) (λ r is. grind arith)
